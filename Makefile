@@ -1,0 +1,41 @@
+# make          the static and the shared library and the command
+# make run      the main job on an example
+# make test     the gate: proofs, must-fail edits, tests (what .ci/run runs)
+# make bench    speed beside the independent Rust implementation
+# make fuzz     differential tests for SECONDS seconds (default 60)
+# make clean    removes everything that was made
+
+SECONDS ?= 60
+LIB := target/staticlib/libkorzhinay.a
+SOURCES := crates.txt $(shell find crates -type f)
+CARGO := CARGO_TARGET_DIR=$(CURDIR)/target/cargo KORZHINAY_LIB_DIR=$(CURDIR)/target/staticlib cargo
+
+.PHONY: all run test bench fuzz clean
+
+all: target/libkorzhinay.so target/korzhinay
+
+$(LIB): $(SOURCES)
+	rt staticlib korzhinay
+	touch $@
+
+target/libkorzhinay.so: $(LIB)
+	gcc -shared -o $@ -Wl,--whole-archive $(LIB) -Wl,--no-whole-archive
+
+target/korzhinay: $(LIB) $(wildcard cli/*.toml cli/*.rs cli/src/*.rs)
+	cd cli && $(CARGO) build --offline --release --quiet
+	cp target/cargo/release/korzhinay $@
+
+run: all
+	target/korzhinay tokens '$$(WEEK) GE 48 OR $$(WEEK) LE 5'
+
+test:
+	.ci/run
+
+bench: $(LIB)
+	cd bench && $(CARGO) run --offline --release --quiet
+
+fuzz: $(LIB)
+	cd tests/differential && $(CARGO) run --offline --release --quiet -- --seed $$(date +%s) --seconds $(SECONDS)
+
+clean:
+	rm -rf target

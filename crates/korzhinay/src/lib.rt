@@ -1,0 +1,82 @@
+// The calls that C, Rust and Python see. Each passes on a call of the layers below and writes its answer into a lent array.
+use settings::Setting;
+use token::scan;
+use token::scan::Ending;
+ghost use mathlib.Core.Path.{_≡_};
+ghost use Rattle.text.specs.Bytes.{pick};
+ghost use Rattle.units.specs.Refusals.{TABLE-MALFORMED};
+ghost use Rattle.settings.specs.Table.{wellFormed};
+ghost use Rattle.token.specs.Tokens.{reading};
+ghost use Rattle.korzhinay.specs.Calls.{Shows, Lists, numberOf};
+
+// 0 where the table is well formed, else 1.
+#[no_mangle]
+pub extern "C" fn korzhinay_table(table: &[u8]) -> u8
+    ensures { λ r. ⌜ r ≡ pick (wellFormed (now (table .entry))) 0 TABLE-MALFORMED ⌝ }
+{
+    if settings::is_well_formed(table) {
+        0
+    } else {
+        units::TABLE_MALFORMED
+    }
+}
+
+// What stands under a name: its kind, its number or where its string starts, and the string's length.
+#[no_mangle]
+pub extern "C" fn korzhinay_lookup(table: &[u8], name: &[u8], out: &mut [u64; 3])
+    ensures { λ r. ⌜ Shows (now (table .entry)) (now (name .entry)) (now (out .entry)) (now (out .exit)) ⌝ }
+{
+    match settings::lookup(table, name) {
+        Setting::Number(value) => {
+            out[0] = 0;
+            out[1] = value;
+            out[2] = 0;
+        }
+        Setting::Text(part) => {
+            let from = part.start;
+            out[0] = 1;
+            out[1] = from.0 as u64;
+            out[2] = part.len as u64;
+        }
+        Setting::Wide(part) => {
+            let from = part.start;
+            out[0] = 2;
+            out[1] = from.0 as u64;
+            out[2] = part.len as u64;
+        }
+        Setting::Missing => {
+            out[0] = 255;
+            out[1] = 0;
+            out[2] = 0;
+        }
+    }
+}
+
+// The refusal number of an ending, 0 where nothing was refused.
+fn number_of(ending: Ending) -> u8
+    ensures { λ r. ⌜ r ≡ numberOf ending ⌝ }
+{
+    match ending {
+        Ending::Complete => 0,
+        Ending::Refused(r) => r.number,
+    }
+}
+
+// The tokens of an expression: the refusal number or 0, how many were read, and their codes, starts, lengths and values.
+#[no_mangle]
+pub extern "C" fn korzhinay_tokens(
+    expr: &[u8],
+    out: &mut [u64; 2],
+    codes: &mut [u8; 200],
+    starts: &mut [u16; 200],
+    lens: &mut [u16; 200],
+    values: &mut [u64; 200],
+)
+    ensures { λ r. ⌜ Lists (reading (now (expr .entry))) (now (out .entry)) (now (codes .entry)) (now (starts .entry)) (now (lens .entry)) (now (values .entry)) (now (out .exit)) (now (codes .exit)) (now (starts .exit)) (now (lens .exit)) (now (values .exit)) ⌝ }
+{
+    let s = scan::tokens(codes, starts, lens, values, expr);
+    let read = s.tokens;
+    let ending = s.ending;
+    out[0] = number_of(ending) as u64;
+    out[1] = read.0 as u64;
+}

@@ -1,0 +1,43 @@
+-- Slices of different lengths differ; for others the comparison decides.
+use mathlib.Core.Path.{sym}
+use Rattle.text.proofs.Laws.{unlike-lengths}
+use borrow.Author.Needs.{needs}
+use Rattle.text.proofs.order.is_alike.Statement.{statement}
+use Rattle.text.proofs.order.is_alike.Tie as tie
+
+returns : tie.Need-returns
+returns c = sym (unlike-lengths _ _ (c .if1 .taken))
+
+compare-requires : tie.Need-compare-requires
+compare-requires c κs = search needs
+
+enum-told : tie.Need-enum-told
+enum-told c = search needs
+
+enum-told-2 : tie.Need-enum-told-2
+enum-told-2 c = search needs
+
+enum-told-3 : tie.Need-enum-told-3
+enum-told-3 c = search needs
+
+returns-2 : tie.Need-returns-2
+returns-2 c = rw (← c .before .before .compare .ensures, c .enum-told .given .1)
+
+returns-3 : tie.Need-returns-3
+returns-3 c = rw (← c .before .before .compare .ensures, c .enum-told2 .given .1)
+
+returns-4 : tie.Need-returns-4
+returns-4 c = rw (← c .before .before .compare .ensures, c .enum-told3 .given .1)
+
+pub is-alike-spec : {M : Type 1} → statement M
+is-alike-spec =
+    tie.close
+    (tie.spec
+    returns
+    compare-requires
+    enum-told
+    enum-told-2
+    enum-told-3
+    returns-2
+    returns-3
+    returns-4)

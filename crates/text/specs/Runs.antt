@@ -1,0 +1,25 @@
+-- Runs: how many bytes at the front of a list belong to a set.
+use Prim.Native.Nat.{ℕ, zero, suc}
+use mathlib.Core.Bool.{Bool, true, false, not, _&&_, _||_}
+use mathlib.Core.List.{List, [], _∷_}
+use lib.Dec.{eqb}
+use Rattle.text.specs.Bytes.{byte, pick, upper, digit, initial, hex, blank}
+use Rattle.text.specs.declared.runs.Set.{Set}
+use Rattle.text.specs.declared.runs.Set.the-variants.{Blanks, Word, Macro, Decimal, Hex, Inside, Zero, Filled}
+
+-- the bytes of each set: blanks; letters, digits and `_`; those of a macro name; decimal and hexadecimal digits; those inside a
+-- string in the quote q, which are any but q, CR and LF; the zero byte; every other byte
+abbrev pub holds : Set → ℕ → Bool
+holds Blanks b = blank b
+holds Word b = initial b || digit b
+holds Macro b = upper b || (digit b || eqb b (byte "_"))
+holds Decimal b = digit b
+holds Hex b = hex b
+holds (Inside q) b = not (eqb b q) && (not (eqb b (byte "\r")) && not (eqb b (byte "\n")))
+holds Zero b = eqb b 0
+holds Filled b = not (eqb b 0)
+
+-- how many bytes of the set a list begins with
+unfoldable pub span : Set → List ℕ → ℕ
+span c [] = 0
+span c (b ∷ s) = pick (holds c b) (suc (span c s)) zero

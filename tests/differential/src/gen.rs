@@ -1,0 +1,6 @@
+//! Makes the inputs: expressions, tables and names.
+
+pub mod expressions;
+mod lexemes;
+mod names;
+pub mod tables;

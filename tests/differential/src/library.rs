@@ -1,0 +1,80 @@
+//! The calls of the library under test.
+
+use oracle::tokens::MAX_TOKENS;
+
+use crate::lent::{Buffer, Input};
+
+extern "C" {
+    fn korzhinay_table(table: *const u8, len: usize) -> u8;
+    fn korzhinay_lookup(
+        table: *const u8,
+        table_len: usize,
+        name: *const u8,
+        name_len: usize,
+        out: *mut u64,
+    );
+    fn korzhinay_tokens(
+        expr: *const u8,
+        len: usize,
+        out: *mut u64,
+        codes: *mut u8,
+        starts: *mut u16,
+        lens: *mut u16,
+        values: *mut u64,
+    );
+}
+
+/// 0 for a well formed table, else its refusal number.
+pub fn table(table: Input) -> u8 {
+    unsafe { korzhinay_table(table.start, table.len) }
+}
+
+/// Kind, number or start, and length of a setting.
+pub fn lookup(table: Input, name: Input, pattern: u64) -> Result<[u64; 3], String> {
+    let mut out = Buffer::new(3, pattern);
+    unsafe { korzhinay_lookup(table.start, table.len, name.start, name.len, out.start()) };
+    out.check("lookup's three numbers")?;
+    Ok([out.cells()[0], out.cells()[1], out.cells()[2]])
+}
+
+/// Everything that a scan leaves in the caller's memory.
+pub struct Tokens {
+    pub refusal: u64,
+    pub count: u64,
+    pub codes: Buffer<u8>,
+    pub starts: Buffer<u16>,
+    pub lens: Buffer<u16>,
+    pub values: Buffer<u64>,
+}
+
+pub fn tokens(expr: Input, pattern: u64) -> Result<Tokens, String> {
+    let mut out = Buffer::new(2, pattern);
+    let mut codes = Buffer::new(MAX_TOKENS, pattern as u8);
+    let mut starts = Buffer::new(MAX_TOKENS, pattern as u16);
+    let mut lens = Buffer::new(MAX_TOKENS, !pattern as u16);
+    let mut values = Buffer::new(MAX_TOKENS, !pattern);
+    unsafe {
+        korzhinay_tokens(
+            expr.start,
+            expr.len,
+            out.start(),
+            codes.start(),
+            starts.start(),
+            lens.start(),
+            values.start(),
+        )
+    };
+    out.check("scan's two numbers")?;
+    codes.check("codes")?;
+    starts.check("starts")?;
+    lens.check("lengths")?;
+    values.check("values")?;
+    Ok(Tokens {
+        refusal: out.cells()[0],
+        count: out.cells()[1],
+        codes,
+        starts,
+        lens,
+        values,
+    })
+}

@@ -1,0 +1,87 @@
+//! Compares the korzhinay library with the oracle on many inputs.
+//!
+//! The folder of `libkorzhinay.a` is given when this is built:
+//! `KORZHINAY_LIB_DIR=folder cargo run --release`.
+
+mod crash;
+mod gen;
+mod lent;
+mod library;
+mod prng;
+mod report;
+mod subject;
+mod tables;
+mod tokens;
+
+use std::process::ExitCode;
+use std::time::Duration;
+
+use subject::{Load, Subject};
+
+const USAGE: &str = "usage: differential [--seed N] [--tables N] [--expressions N] [--seconds N] \
+[--case N]
+  --seed N         where the random inputs start (default 1)
+  --tables N       random cases of tables (default 20000, 0 leaves them out)
+  --expressions N  random cases of expressions (default 200000, 0 leaves them out)
+  --seconds N      go on after these cases until N seconds are over, shared among the subjects
+  --case N         run only the random case N of each subject, to look into a mismatch";
+
+struct Options {
+    seed: u64,
+    tables: u64,
+    expressions: u64,
+    seconds: u64,
+    case: Option<u64>,
+}
+
+impl Options {
+    fn read(mut arguments: impl Iterator<Item = String>) -> Option<Options> {
+        let mut options = Options {
+            seed: 1,
+            tables: 20_000,
+            expressions: 200_000,
+            seconds: 0,
+            case: None,
+        };
+        while let Some(name) = arguments.next() {
+            let number = arguments.next()?.parse().ok()?;
+            match name.as_str() {
+                "--seed" => options.seed = number,
+                "--tables" => options.tables = number,
+                "--expressions" => options.expressions = number,
+                "--seconds" => options.seconds = number,
+                "--case" => options.case = Some(number),
+                _ => return None,
+            }
+        }
+        Some(options)
+    }
+}
+
+fn main() -> ExitCode {
+    let Some(options) = Options::read(std::env::args().skip(1)) else {
+        eprintln!("{USAGE}");
+        return ExitCode::from(2);
+    };
+    crash::install(options.seed);
+
+    let mut subjects: Vec<(&dyn Subject, u64)> = vec![
+        (&tables::Tables, options.tables),
+        (&tokens::Tokens, options.expressions),
+    ];
+    subjects.retain(|(_, cases)| *cases > 0);
+
+    let share = Duration::from_secs(options.seconds) / subjects.len().max(1) as u32;
+    for (subject, cases) in subjects {
+        let load = Load {
+            seed: options.seed,
+            cases,
+            time: share,
+            only: options.case,
+        };
+        if !subject::run(subject, &load) {
+            return ExitCode::FAILURE;
+        }
+    }
+    ExitCode::SUCCESS
+}

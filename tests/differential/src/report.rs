@@ -1,0 +1,57 @@
+//! What is said about the cases: counts of answers, and a mismatch.
+
+use std::fmt::Write;
+
+/// A case on which the two implementations differ.
+pub struct Mismatch {
+    pub what: String,
+    pub input: String,
+    pub oracle: String,
+    pub library: String,
+}
+
+/// How often each answer was met; 0 stands for an accepted input.
+pub struct Tally {
+    answers: [u64; 256],
+    /// Further comparisons that have no refusal, such as lookups.
+    pub extra: u64,
+}
+
+impl Tally {
+    pub fn new() -> Tally {
+        Tally {
+            answers: [0; 256],
+            extra: 0,
+        }
+    }
+
+    pub fn add(&mut self, answer: u8) {
+        self.answers[usize::from(answer)] += 1;
+    }
+
+    pub fn met(&self, answer: u8) -> u64 {
+        self.answers[usize::from(answer)]
+    }
+
+    pub fn total(&self) -> u64 {
+        self.answers.iter().sum()
+    }
+}
+
+/// The bytes as text, with everything unprintable escaped. Long runs of zero
+/// bytes are shortened, since most of a table is padding.
+pub fn escaped(bytes: &[u8]) -> String {
+    let mut out = String::new();
+    let mut rest = bytes;
+    while let Some(&byte) = rest.first() {
+        let zeros = rest.iter().take_while(|&&byte| byte == 0).count();
+        if zeros > 4 {
+            let _ = write!(out, "<{zeros} zero bytes>");
+            rest = &rest[zeros..];
+        } else {
+            let _ = write!(out, "{}", byte.escape_ascii());
+            rest = &rest[1..];
+        }
+    }
+    out
+}

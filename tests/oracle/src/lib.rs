@@ -1,0 +1,20 @@
+//! A plain second implementation of document 01.
+//!
+//! It exists to be compared with the product and to be timed against it, so
+//! it is written from the papers alone and prefers the obvious form.
+
+pub mod bytes;
+pub mod expression;
+pub mod field;
+pub mod lines;
+pub mod refusal;
+pub mod selection;
+pub mod table;
+pub mod tokens;
+pub mod tree;
+
+pub use expression::{evaluate, Answer, Kind, Outcome, Value};
+pub use field::field;
+pub use selection::select;
+pub use table::{lookup, well_formed, Setting};
+pub use tokens::{scan, Scan, Token};

@@ -1,0 +1,212 @@
+//! Which lines of a file are kept (document 01, Lines and directives).
+
+use crate::bytes::{is_blank, macro_length, skip_blanks};
+use crate::expression::{evaluate_with, Value};
+use crate::lines::{lines, sort, Line, Word};
+use crate::refusal;
+use crate::table::{lookup, well_formed};
+
+pub const MAX_FILE: usize = 65_536;
+pub const MAX_LINES: usize = 4_096;
+pub const MAX_LINE: usize = 1_024;
+pub const MAX_GROUPS: usize = 16;
+
+/// The values of a mark byte.
+pub mod mark {
+    pub const DROPPED: u8 = 0;
+    pub const KEPT: u8 = 1;
+    pub const UNREAD: u8 = 2;
+    pub const NOT_TAKEN: u8 = 3;
+    pub const TAKEN: u8 = 4;
+    pub const END: u8 = 5;
+    pub const REFUSED: u8 = 255;
+}
+
+/// Number of lines and sum of operator counts, or refusal number and line.
+pub type Selection = Result<(usize, u64), (u8, usize)>;
+
+/// Marks every line of the file. A refusal sets all of `marks` to 255.
+pub fn select(file: &[u8], table: &[u8], marks: &mut [u8]) -> Selection {
+    let result = run(file, table, marks);
+    if result.is_err() {
+        marks.fill(mark::REFUSED);
+    }
+    result
+}
+
+fn run(file: &[u8], table: &[u8], marks: &mut [u8]) -> Selection {
+    if !well_formed(table) {
+        return Err((refusal::TABLE, 0));
+    }
+    if file.len() > MAX_FILE {
+        return Err((refusal::FILE_LENGTH, 0));
+    }
+    let total = lines(file).count();
+    if total > MAX_LINES {
+        return Err((refusal::LINE_COUNT, 0));
+    }
+    if marks.len() < total {
+        return Err((refusal::MARKS, 0));
+    }
+    let mut state = State {
+        table,
+        groups: Vec::new(),
+        count: 0,
+    };
+    for (index, line) in lines(file).enumerate() {
+        let number = index + 1;
+        marks[index] = state.step(line, number).map_err(|no| (no, number))?;
+    }
+    match state.groups.last() {
+        Some(group) => Err((refusal::OPEN_END, group.opened)),
+        None => Ok((total, state.count)),
+    }
+}
+
+/// One open `!if`, `!ifdef` or `!ifndef`.
+struct Group {
+    /// The line that opened it.
+    opened: usize,
+    /// Whether the branch around the whole group is taken, or there is none.
+    around: bool,
+    /// Whether the branch that the run is in now is taken.
+    taken: bool,
+    /// Whether some branch so far was taken.
+    any_taken: bool,
+    /// Whether its `!else` has been passed.
+    after_else: bool,
+}
+
+struct State<'a> {
+    table: &'a [u8],
+    groups: Vec<Group>,
+    count: u64,
+}
+
+impl State<'_> {
+    /// The mark of the next line, or the number of its refusal.
+    fn step(&mut self, line: &[u8], number: usize) -> Result<u8, u8> {
+        if line.len() > MAX_LINE {
+            return Err(refusal::LINE_LENGTH);
+        }
+        let live = self.groups.last().is_none_or(|group| group.taken);
+        match sort(line)? {
+            Line::Plain => Ok(if live { mark::KEPT } else { mark::DROPPED }),
+            Line::Directive { word, argument } => match word {
+                Word::If | Word::Ifdef | Word::Ifndef => self.open(word, argument, live, number),
+                Word::Elseif => self.next_branch(argument),
+                Word::Else => self.last_branch(argument),
+                Word::Endif => self.close(argument),
+            },
+        }
+    }
+
+    fn open(&mut self, word: Word, argument: &[u8], live: bool, line: usize) -> Result<u8, u8> {
+        if self.groups.len() == MAX_GROUPS {
+            return Err(refusal::GROUPS);
+        }
+        let taken = live && self.condition(word, argument)?;
+        // A group in a dropped branch is kept track of all the same: its own
+        // `!endif` must not close the group around it.
+        self.groups.push(Group {
+            opened: line,
+            around: live,
+            taken,
+            any_taken: taken,
+            after_else: false,
+        });
+        Ok(branch_mark(live, taken))
+    }
+
+    fn next_branch(&mut self, argument: &[u8]) -> Result<u8, u8> {
+        let group = self.group_before_else()?;
+        let read = group.around && !group.any_taken;
+        let taken = read && self.condition(Word::Elseif, argument)?;
+        let group = self.group_before_else()?;
+        group.taken = taken;
+        group.any_taken |= taken;
+        Ok(branch_mark(read, taken))
+    }
+
+    fn last_branch(&mut self, argument: &[u8]) -> Result<u8, u8> {
+        let group = self.group_before_else()?;
+        group.after_else = true;
+        if group.around {
+            check_nothing(argument)?;
+        }
+        let taken = group.around && !group.any_taken;
+        group.taken = taken;
+        group.any_taken |= taken;
+        Ok(branch_mark(group.around, taken))
+    }
+
+    fn close(&mut self, argument: &[u8]) -> Result<u8, u8> {
+        let group = self.groups.pop().ok_or(refusal::NESTING)?;
+        if !group.around {
+            return Ok(mark::UNREAD);
+        }
+        check_nothing(argument)?;
+        Ok(mark::END)
+    }
+
+    fn group_before_else(&mut self) -> Result<&mut Group, u8> {
+        self.groups
+            .last_mut()
+            .filter(|group| !group.after_else)
+            .ok_or(refusal::NESTING)
+    }
+
+    /// Reads the argument of a directive that has a condition.
+    fn condition(&mut self, word: Word, argument: &[u8]) -> Result<bool, u8> {
+        if !argument.first().is_some_and(|&byte| is_blank(byte)) {
+            return Err(refusal::ARGUMENT);
+        }
+        match word {
+            Word::Ifdef => self.defined(argument),
+            Word::Ifndef => Ok(!self.defined(argument)?),
+            _ => {
+                let outcome = evaluate_with(argument, self.table)?;
+                self.count += outcome.count;
+                match outcome.value {
+                    Value::Number(0) => Ok(false),
+                    Value::Number(1) => Ok(true),
+                    _ => Err(refusal::CONDITION),
+                }
+            }
+        }
+    }
+
+    /// Whether the one macro that the argument names is in the table.
+    fn defined(&self, argument: &[u8]) -> Result<bool, u8> {
+        let text = skip_blanks(argument);
+        let (text, bracketed) = match text {
+            [b'$', b'(', inside @ ..] => (inside, true),
+            _ => (text, false),
+        };
+        let (name, mut rest) = text.split_at(macro_length(text));
+        if name.is_empty() {
+            return Err(refusal::ARGUMENT);
+        }
+        if bracketed {
+            rest = rest.strip_prefix(b")").ok_or(refusal::ARGUMENT)?;
+        }
+        check_nothing(rest)?;
+        Ok(lookup(self.table, name).is_some())
+    }
+}
+
+fn branch_mark(read: bool, taken: bool) -> u8 {
+    match (read, taken) {
+        (false, _) => mark::UNREAD,
+        (true, false) => mark::NOT_TAKEN,
+        (true, true) => mark::TAKEN,
+    }
+}
+
+/// Blanks and a comment may stand here, and nothing else.
+fn check_nothing(text: &[u8]) -> Result<(), u8> {
+    match skip_blanks(text) {
+        [] | [b'#', ..] => Ok(()),
+        _ => Err(refusal::ARGUMENT),
+    }
+}

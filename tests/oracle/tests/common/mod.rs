@@ -1,0 +1,97 @@
+//! Small things that the tests share.
+#![allow(dead_code)]
+
+use oracle::{evaluate, select, Value};
+
+/// A record with its fields at the places document 01 gives them.
+pub fn record(name: &[u8], kind: u8, content: &[u8]) -> [u8; 128] {
+    let mut record = [0; 128];
+    record[..name.len()].copy_from_slice(name);
+    record[64] = kind;
+    record[65] = content.len() as u8;
+    record[72..72 + content.len()].copy_from_slice(content);
+    record
+}
+
+pub fn number(name: &str, value: u64) -> [u8; 128] {
+    record(name.as_bytes(), 0, &value.to_le_bytes())
+}
+
+pub fn text(name: &str, content: &str) -> [u8; 128] {
+    record(name.as_bytes(), 1, content.as_bytes())
+}
+
+pub fn wide(name: &str, content: &str) -> [u8; 128] {
+    record(name.as_bytes(), 2, content.as_bytes())
+}
+
+/// The records put in order of their names.
+pub fn table(records: &[[u8; 128]]) -> Vec<u8> {
+    let mut records = records.to_vec();
+    records.sort();
+    records.concat()
+}
+
+/// The number and count of an expression, or its refusal.
+pub fn number_in(expr: &str, table: &[u8]) -> Result<(u64, u64), u8> {
+    evaluate(expr.as_bytes(), table).map(|outcome| match outcome.value {
+        Value::Number(number) => (number, outcome.count),
+        other => panic!("{expr}: a number was expected, not {other:?}"),
+    })
+}
+
+pub fn number_of(expr: &str) -> Result<(u64, u64), u8> {
+    number_in(expr, &[])
+}
+
+/// The value alone.
+pub fn value_of(expr: &str) -> Result<u64, u8> {
+    number_of(expr).map(|(number, _)| number)
+}
+
+pub fn refusal_of(expr: &[u8]) -> Option<u8> {
+    evaluate(expr, &[]).err()
+}
+
+/// Marks and count of a file, or refusal number and line. Checks on the way
+/// that the marks are treated as they must be.
+pub fn marks_in(file: &[u8], table: &[u8]) -> Result<(Vec<u8>, u64), (u8, usize)> {
+    let mut marks = vec![77; 4_096 + 3];
+    match select(file, table, &mut marks) {
+        Ok((lines, count)) => {
+            assert!(marks[lines..].iter().all(|&mark| mark == 77));
+            marks.truncate(lines);
+            Ok((marks, count))
+        }
+        Err(refusal) => {
+            assert!(marks.iter().all(|&mark| mark == 255));
+            Err(refusal)
+        }
+    }
+}
+
+/// As above for a file written with `|` for each LF between its lines.
+pub fn marks_of(file: &str) -> Result<(Vec<u8>, u64), (u8, usize)> {
+    marks_in(file.replace('|', "\n").as_bytes(), &[])
+}
+
+/// splitmix64, so that the random tests are the same everywhere.
+pub struct Prng(pub u64);
+
+impl Prng {
+    pub fn next(&mut self) -> u64 {
+        self.0 = self.0.wrapping_add(0x9e37_79b9_7f4a_7c15);
+        let mut mixed = self.0;
+        mixed = (mixed ^ (mixed >> 30)).wrapping_mul(0xbf58_476d_1ce4_e5b9);
+        mixed = (mixed ^ (mixed >> 27)).wrapping_mul(0x94d0_49bb_1331_11eb);
+        mixed ^ (mixed >> 31)
+    }
+
+    pub fn below(&mut self, limit: usize) -> usize {
+        (self.next() % limit as u64) as usize
+    }
+
+    pub fn pick<T: Copy>(&mut self, items: &[T]) -> T {
+        items[self.below(items.len())]
+    }
+}

@@ -1,0 +1,154 @@
+//! Demand 3 tried on random pairs of files and tables: what an accepted run
+//! does not read makes no difference.
+
+mod common;
+
+use common::*;
+use oracle::lines::{lines, sort, Line, Word};
+use oracle::tokens::{code, scan};
+
+const NAMES: [&str; 5] = ["A", "B", "C", "g.P", "g.Q"];
+
+/// Texts for unread directives. None starts with a letter, which would go on
+/// with the word.
+const JUNK: [&str; 6] = ["", " @", " 1 / 0", "9x", " 'a", " $(A) == g.P"];
+
+fn any_record(rng: &mut Prng, name: &str) -> [u8; 128] {
+    match rng.below(6) {
+        0 => text(name, rng.pick(&["", "a", "b"])),
+        1 => wide(name, rng.pick(&["", "a"])),
+        _ => number(name, rng.below(3) as u64),
+    }
+}
+
+fn any_table(rng: &mut Prng) -> Vec<[u8; 128]> {
+    let mut records = Vec::new();
+    for name in NAMES {
+        if rng.below(4) > 0 {
+            records.push(any_record(rng, name));
+        }
+    }
+    records
+}
+
+fn any_condition(rng: &mut Prng) -> String {
+    let operand = |rng: &mut Prng| rng.pick(&["0", "1", "$(A)", "$(B)", "$(C)", "g.P", "g.Q"]);
+    let operator = rng.pick(&["==", "!=", "<", "AND", "OR", "-"]);
+    let (left, right) = (operand(rng), operand(rng));
+    match rng.below(3) {
+        0 => left.to_string(),
+        1 => format!("{left} {operator} {right}"),
+        _ => format!("!{left} OR {right} == 1 # c"),
+    }
+}
+
+/// Lines with properly nested groups, so that most runs get to the end.
+fn any_lines(rng: &mut Prng, depth: usize, out: &mut Vec<String>) {
+    for _ in 0..1 + rng.below(3) {
+        if depth == 0 || rng.below(2) == 0 {
+            out.push(plain(rng).to_string());
+            continue;
+        }
+        let name = rng.pick(&["A", "$(B)", "C #"]);
+        out.push(match rng.below(4) {
+            0 => format!("!ifdef {name}"),
+            1 => format!("!ifndef {name}"),
+            _ => format!("!if {}", any_condition(rng)),
+        });
+        any_lines(rng, depth - 1, out);
+        for _ in 0..rng.below(3) {
+            let word = rng.pick(&["!elseif", "!elif"]);
+            out.push(format!("{word} {}", any_condition(rng)));
+            any_lines(rng, depth - 1, out);
+        }
+        if rng.below(2) == 0 {
+            out.push("!else # c".to_string());
+            any_lines(rng, depth - 1, out);
+        }
+        out.push(" !endif".to_string());
+    }
+}
+
+fn plain(rng: &mut Prng) -> &'static str {
+    rng.pick(&["", "x", "  x", "!include a", " !error", "!include9", "#"])
+}
+
+fn any_end(rng: &mut Prng) -> &'static str {
+    rng.pick(&["\n", "\r\n"])
+}
+
+/// The names that a read directive depends on.
+fn named(word: Word, argument: &[u8]) -> Vec<String> {
+    let string = |bytes: &[u8]| String::from_utf8(bytes.to_vec()).unwrap();
+    match word {
+        Word::If | Word::Elseif => scan(argument)
+            .tokens
+            .iter()
+            .filter_map(|token| {
+                let bytes = &argument[token.start..token.start + token.len];
+                match token.code {
+                    code::MACRO => Some(string(&bytes[2..bytes.len() - 1])),
+                    code::PCD => Some(string(bytes)),
+                    _ => None,
+                }
+            })
+            .collect(),
+        Word::Ifdef | Word::Ifndef => {
+            let name = argument.iter().filter(|byte| byte.is_ascii_uppercase());
+            vec![string(&name.copied().collect::<Vec<u8>>())]
+        }
+        Word::Else | Word::Endif => Vec::new(),
+    }
+}
+
+#[test]
+fn unread_text_makes_no_difference() {
+    let mut rng = Prng(3);
+    let mut accepted = 0;
+    for _ in 0..20_000 {
+        let mut written = Vec::new();
+        any_lines(&mut rng, 3, &mut written);
+        let file: String = written
+            .iter()
+            .map(|line| format!("{line}{}", any_end(&mut rng)))
+            .collect();
+        let first_table = any_table(&mut rng);
+        let first = marks_in(file.as_bytes(), &first_table.concat());
+        let Ok((marks, _)) = &first else { continue };
+        accepted += usize::from(marks.contains(&2));
+
+        let mut fixed = Vec::new();
+        let mut second = Vec::new();
+        for (index, line) in lines(file.as_bytes()).enumerate() {
+            match sort(line).unwrap() {
+                Line::Plain => second.extend(plain(&mut rng).bytes()),
+                Line::Directive { word, .. } if marks[index] == 2 => {
+                    let spelled = match word {
+                        Word::If => "!if",
+                        Word::Ifdef => "!ifdef",
+                        Word::Ifndef => "!ifndef",
+                        Word::Elseif => rng.pick(&["!elseif", "!elif"]),
+                        Word::Else => "!else",
+                        Word::Endif => "!endif",
+                    };
+                    second.extend(spelled.bytes().chain(rng.pick(&JUNK).bytes()));
+                }
+                Line::Directive { word, argument } => {
+                    fixed.extend(named(word, argument));
+                    second.extend(line);
+                }
+            }
+            second.extend(any_end(&mut rng).bytes());
+        }
+        let mut second_table = any_table(&mut rng);
+        let is_fixed = |record: &[u8; 128]| {
+            let name = record[..64].split(|&byte| byte == 0).next().unwrap();
+            fixed.iter().any(|fixed| fixed.as_bytes() == name)
+        };
+        second_table.retain(|record| !is_fixed(record));
+        second_table.extend(first_table.iter().filter(|record| is_fixed(record)));
+        let second_table = table(&second_table);
+        assert_eq!(marks_in(&second, &second_table), first, "{file}");
+    }
+    assert!(accepted > 1_000, "{accepted}");
+}

@@ -1,0 +1,31 @@
+"""Runs the vectors against the shared library. The last line says how many passed and how many failed."""
+import sys
+
+import library
+import tables
+import tokens
+
+passed = failed = 0
+
+
+def check(what, got, wanted):
+    global passed, failed
+    if got == wanted:
+        passed += 1
+    else:
+        failed += 1
+        print("FAILED %s\n  got    %r\n  wanted %r" % (what[:200], got, wanted))
+
+
+for expression, refusal, read in tokens.VECTORS:
+    check("tokens of %r" % expression, library.tokens(expression), (refusal, tokens.expected(read, expression)))
+for expression, places in tokens.PLACES:
+    check("places in %r" % expression, [token[1] for token in library.tokens(expression)[1]], places)
+for number, (table, good) in enumerate(tables.TABLES):
+    check("table %d" % number, library.table(table), 0 if good else 1)
+for number, (table, name, found) in enumerate(tables.LOOKUPS):
+    assert library.table(table) == 0
+    check("lookup %d of %r" % (number, name), library.lookup(table, name), found)
+
+print("%d passed, %d failed" % (passed, failed))
+sys.exit(1 if failed else 0)
