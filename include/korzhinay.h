@@ -16,16 +16,15 @@ extern "C" {
 /* Whether a table of settings is well formed: 0, or the refusal number 1. */
 uint8_t korzhinay_table(const uint8_t *table, size_t table_len);
 
-/* What stands under a name in a table.
+/* What stands under a name in a table: 0 and the answer, or the refusal number 1 where the table is malformed, and out stays.
  *   out[0]  the kind: 0 a number, 1 a string, 2 a wide string, 255 no such name
  *   out[1]  the number; for a string where its bytes start in the table; 0 where there is no such name
- *   out[2]  the string's length; 0 for a number and where there is no such name
- * In a table that is not well formed the answer is left open, but a string's bytes lie within the table. */
-void korzhinay_lookup(const uint8_t *table, size_t table_len, const uint8_t *name, size_t name_len, uint64_t out[3]);
+ *   out[2]  the string's length; 0 for a number and where there is no such name */
+uint8_t korzhinay_lookup(const uint8_t *table, size_t table_len, const uint8_t *name, size_t name_len, uint64_t out[3]);
 
 /* The tokens of an expression.
- *   out[0]  0, or the refusal number: 2 the expression is longer than 1,024 bytes; 3 a bad token, or a byte that starts
- *           none; 4 a number literal is above 2^64 - 1; 5 something follows token 200; 6 more than 16 parentheses are open
+ *   out[0]  0, or the refusal number: 2 the expression is longer than 1,024 bytes; 3 no token can be read at some byte;
+ *           4 a number literal is above 2^64 - 1; 5 something follows token 200; 6 at some token `(` outnumber `)` by more than 16
  *   out[1]  how many tokens were read: all of them with 0 and 6, none with 2, those before the fault with 3, 4 and 5
  * Of each token that was read: its code, where it starts, how many bytes it has, and the value of a number literal or a truth
  * word (0 for any other). Entries past out[1] stay as they were. */

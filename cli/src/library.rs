@@ -13,7 +13,7 @@ mod c {
             name: *const c_void,
             name_len: usize,
             out: *mut u64,
-        );
+        ) -> u8;
         pub fn korzhinay_tokens(
             expression: *const c_void,
             expression_len: usize,
@@ -59,11 +59,11 @@ pub fn check_table(table: &[u8]) -> Option<u8> {
     (number != 0).then_some(number)
 }
 
-/// What stands under a name in a table.
+/// What stands under a name in a table; nothing does in one that is malformed.
 pub fn lookup<'a>(table: &'a [u8], name: &[u8]) -> Setting<'a> {
     let mut out = [0u64; 3];
     // SAFETY: the call reads the two slices and writes the three numbers.
-    unsafe {
+    let refused = unsafe {
         c::korzhinay_lookup(
             pointer(table),
             table.len(),
@@ -72,6 +72,9 @@ pub fn lookup<'a>(table: &'a [u8], name: &[u8]) -> Setting<'a> {
             out.as_mut_ptr(),
         )
     };
+    if refused != 0 {
+        return Setting::Missing;
+    }
     let part = || &table[out[1] as usize..][..out[2] as usize];
     match out[0] {
         0 => Setting::Number(out[1]),

@@ -5,10 +5,10 @@ pub fn refusal(number: u8) -> &'static str {
     match number {
         1 => "the table of settings is malformed",
         2 => "the expression is longer than 1,024 bytes",
-        3 => "a bad token, or a byte that starts none",
+        3 => "no token can be read at some byte",
         4 => "a number literal is above 2^64 - 1",
         5 => "something follows token 200",
-        6 => "more than 16 parentheses are open",
+        6 => "at some token `(` outnumber `)` by more than 16",
         _ => "unknown refusal",
     }
 }

@@ -29,8 +29,9 @@ int main(void)
     check("a record cut short", korzhinay_table(table, 127) == 1);
     check("no table", korzhinay_table(NULL, 0) == 0);
 
-    korzhinay_lookup(table, sizeof table, (const uint8_t *)"WEEK", 4, found);
+    check("a lookup", korzhinay_lookup(table, sizeof table, (const uint8_t *)"WEEK", 4, found) == 0);
     check("a number", found[0] == 0 && found[1] == 48 && found[2] == 0);
+    check("a lookup in a table cut short", korzhinay_lookup(table, 127, (const uint8_t *)"WEEK", 4, found) == 1);
     korzhinay_lookup(table, sizeof table, (const uint8_t *)"WEE", 3, found);
     check("no such name", found[0] == 255 && found[1] == 0 && found[2] == 0);
     table[64] = 1;

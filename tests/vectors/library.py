@@ -5,6 +5,7 @@ import os
 ROOT = os.path.dirname(os.path.dirname(os.path.dirname(os.path.abspath(__file__))))
 LIB = ctypes.CDLL(os.path.join(ROOT, "target", "libkorzhinay.so"))
 LIB.korzhinay_table.restype = ctypes.c_uint8
+LIB.korzhinay_lookup.restype = ctypes.c_uint8
 SIZE = ctypes.c_size_t
 
 # What stands in a lent array before a call: entries that a call must not write have to keep it.
@@ -16,9 +17,10 @@ def table(data):
 
 
 def lookup(data, name):
-    out = (ctypes.c_uint64 * 3)()
-    LIB.korzhinay_lookup(data, SIZE(len(data)), name, SIZE(len(name)), out)
-    return tuple(out)
+    """The refusal number (0: none) and the three numbers of the answer, as they were before on a refusal."""
+    out = (ctypes.c_uint64 * 3)(*[VALUE] * 3)
+    refusal = LIB.korzhinay_lookup(data, SIZE(len(data)), name, SIZE(len(name)), out)
+    return refusal, tuple(out)
 
 
 def tokens(expression):

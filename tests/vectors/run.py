@@ -24,8 +24,10 @@ for expression, places in tokens.PLACES:
 for number, (table, good) in enumerate(tables.TABLES):
     check("table %d" % number, library.table(table), 0 if good else 1)
 for number, (table, name, found) in enumerate(tables.LOOKUPS):
-    assert library.table(table) == 0
-    check("lookup %d of %r" % (number, name), library.lookup(table, name), found)
+    check("lookup %d of %r" % (number, name), library.lookup(table, name), (0, found))
+for number, (table, good) in enumerate(tables.TABLES):
+    if not good:
+        check("lookup in malformed table %d" % number, library.lookup(table, b"A"), (1, (library.VALUE,) * 3))
 
 print("%d passed, %d failed" % (passed, failed))
 sys.exit(1 if failed else 0)

@@ -5,9 +5,11 @@ use token::scan::Ending;
 ghost use mathlib.Core.Path.{_≡_};
 ghost use Rattle.text.specs.Bytes.{pick};
 ghost use Rattle.units.specs.Refusals.{TABLE-MALFORMED};
+ghost use mathlib.Core.Bool.{true};
 ghost use Rattle.settings.specs.Table.{wellFormed};
-ghost use Rattle.token.specs.Tokens.{reading};
-ghost use Rattle.korzhinay.specs.Calls.{Shows, Lists, numberOf};
+ghost use Rattle.settings.specs.Setting.{under};
+ghost use Rattle.token.specs.Tokens.{stored, reading};
+ghost use Rattle.korzhinay.specs.Calls.{shown, Shows, Lists, refusalNumber};
 
 // 0 where the table is well formed, else 1.
 #[no_mangle]
@@ -21,10 +23,10 @@ pub extern "C" fn korzhinay_table(table: &[u8]) -> u8
     }
 }
 
-// What stands under a name: its kind, its number or where its string starts, and the string's length.
-#[no_mangle]
-pub extern "C" fn korzhinay_lookup(table: &[u8], name: &[u8], out: &mut [u64; 3])
-    ensures { λ r. ⌜ Shows (now (table .entry)) (now (name .entry)) (now (out .entry)) (now (out .exit)) ⌝ }
+// Stores what stands under a name: its kind, its number or where its string starts, and the string's length.
+fn show(table: &[u8], name: &[u8], out: &mut [u64; 3])
+    requires { ⌜ wellFormed (now table) ≡ true ⌝ }
+    ensures { λ r. ⌜ now (out .exit) ≡ stored (shown (under (now (table .entry)) (now (name .entry)))) (now (out .entry)) ⌝ }
 {
     match settings::lookup(table, name) {
         Setting::Number(value) => {
@@ -32,7 +34,7 @@ pub extern "C" fn korzhinay_lookup(table: &[u8], name: &[u8], out: &mut [u64; 3]
             out[1] = value;
             out[2] = 0;
         }
-        Setting::Text(part) => {
+        Setting::String(part) => {
             let from = part.start;
             out[0] = 1;
             out[1] = from.0 as u64;
@@ -52,9 +54,21 @@ pub extern "C" fn korzhinay_lookup(table: &[u8], name: &[u8], out: &mut [u64; 3]
     }
 }
 
+// What stands under a name: 0 and the answer in `out`, or 1 where the table is malformed, and `out` stays.
+#[no_mangle]
+pub extern "C" fn korzhinay_lookup(table: &[u8], name: &[u8], out: &mut [u64; 3]) -> u8
+    ensures { λ r. ⌜ Shows (now (table .entry)) (now (name .entry)) (now (out .entry)) r (now (out .exit)) ⌝ }
+{
+    if !settings::is_well_formed(table) {
+        return units::TABLE_MALFORMED;
+    }
+    show(table, name, out);
+    0
+}
+
 // The refusal number of an ending, 0 where nothing was refused.
 fn number_of(ending: Ending) -> u8
-    ensures { λ r. ⌜ r ≡ numberOf ending ⌝ }
+    ensures { λ r. ⌜ r ≡ refusalNumber ending ⌝ }
 {
     match ending {
         Ending::Complete => 0,

@@ -44,12 +44,16 @@ isDecimal s n = (eqb (getD s 0 0) (byte "0") && eqb n 1) || (within "1" "9" (get
 
 -- a run of n bytes is `0x` or `0X` and at least one hexadecimal digit
 unfoldable pub isHexadecimal : List ℕ → ℕ → Bool
-isHexadecimal s n = eqb (getD s 0 0) (byte "0") && ((eqb (getD s 1 0) (byte "x") || eqb (getD s 1 0) (byte "X")) && (ltb 2 n && eqb (2 + span Hex (drop 2 s)) n))
+isHexadecimal s n =
+    eqb (getD s 0 0) (byte "0")
+    && ((eqb (getD s 1 0) (byte "x") || eqb (getD s 1 0) (byte "X"))
+    && (ltb 2 n && eqb (2 + span Hex (drop 2 s)) n))
 
--- a run of n bytes that starts with a digit
+-- a run of n bytes that is no decimal
 unfoldable pub hexadecimalOf : ℕ → List ℕ → Lexeme
 hexadecimalOf n s = pick (isHexadecimal s n) (literal n (valueIn 16 0 (take (n - 2) (drop 2 s)))) (Wrong TOKEN-BAD)
 
+-- a run of n bytes that starts with a digit
 unfoldable pub numberOf : ℕ → List ℕ → Lexeme
 numberOf n s = pick (isDecimal s n) (literal n (valueIn 10 0 (take n s))) (hexadecimalOf n s)
 
@@ -57,6 +61,7 @@ numberOf n s = pick (isDecimal s n) (literal n (valueIn 10 0 (take n s))) (hexad
 unfoldable pub stringOf : ℕ → ℕ → ℕ → ℕ → List ℕ → Lexeme
 stringOf code q k n s = pick (eqb (getD s (k + 1 + n) 0) q) (found code (k + 1 + n + 1) 0) (Wrong TOKEN-BAD)
 
+-- a string whose quote stands at byte k
 unfoldable pub stringAt : ℕ → ℕ → List ℕ → Lexeme
 stringAt code k s = stringOf code (getD s k 0) k (span (Inside (getD s k 0)) (drop (k + 1) s)) s
 
@@ -91,16 +96,17 @@ unfoldable pub leading : List Spelling → List ℕ → Lexeme
 leading [] s = Wrong TOKEN-BAD
 leading (x ∷ xs) s = pick (begins (x .text) s) (found (x .code) (length (x .text)) (x .value)) (leading xs s)
 
--- what a text begins with, by the class of its first byte
+-- what a text begins with, by the class of its first byte; at a blank or a comment no token is looked for
 unfoldable pub lexemeBy : Class → List ℕ → Lexeme
 lexemeBy Initial s = wordOf (span Word s) s
 lexemeBy Digit s = numberOf (span Word s) s
 lexemeBy Quote s = stringAt STRING 0 s
 lexemeBy Operator s = leading symbols s
 lexemeBy Dollar s = macroOf (macroName (drop 2 s)) s
+lexemeBy Other s = Wrong TOKEN-BAD
 lexemeBy Blank s = Wrong TOKEN-BAD
 lexemeBy Comment s = Wrong TOKEN-BAD
-lexemeBy Other s = Wrong TOKEN-BAD
 
+-- what a text begins with
 unfoldable pub lexeme : List ℕ → Lexeme
 lexeme s = lexemeBy (classOf (getD s 0 0)) s

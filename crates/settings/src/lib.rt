@@ -24,7 +24,7 @@ pub struct Part {
 // What stands under a name.
 pub enum Setting {
     Number(u64),
-    Text(Part),
+    String(Part),
     Wide(Part),
     Missing,
 }
@@ -149,7 +149,7 @@ fn index(b: u8) -> usize
     b as usize
 }
 
-fn wide(b: u8) -> u64
+fn widened(b: u8) -> u64
     ensures { λ r. ⌜ r ≡ b ⌝ }
     ensures { λ r. ⌜ r ≤ 255 ⌝ }
 {
@@ -161,24 +161,27 @@ fn number_in(r: &[u8]) -> u64
     requires { ⌜ length (now r) ≡ 128 ⌝ }
     ensures { λ v. ⌜ v ≡ littleEndian 8 72 (now (r .entry)) ⌝ }
 {
-    let high = wide(r[76]) + 256 * (wide(r[77]) + 256 * (wide(r[78]) + 256 * wide(r[79])));
-    wide(r[72]) + 256 * (wide(r[73]) + 256 * (wide(r[74]) + 256 * (wide(r[75]) + 256 * high)))
+    let high = widened(r[76])
+        + 256 * (widened(r[77]) + 256 * (widened(r[78]) + 256 * widened(r[79])));
+    widened(r[72])
+        + 256 * (widened(r[73]) + 256 * (widened(r[74]) + 256 * (widened(r[75]) + 256 * high)))
 }
 
 // What a record holds that begins at `at` in the table.
-fn hold(at: usize, r: &[u8]) -> Setting
-    requires { ⌜ (length (now r) ≡ 128) × (at + 72 < 2 ^ 64) ⌝ }
-    ensures { λ s. ⌜ s ≡ held at (now (r .entry)) ⌝ }
+fn hold(at: Offset, r: &[u8]) -> Setting
+    requires { ⌜ (length (now r) ≡ 128) × (at .0 + 72 < 2 ^ 64) ⌝ }
+    ensures { λ s. ⌜ s ≡ held (at .0) (now (r .entry)) ⌝ }
 {
     let kind = r[64];
     let len = index(r[65]);
     if 56 < len {
         return Setting::Missing;
     }
-    let start = Offset(at + 72);
+    let from = at.0;
+    let start = Offset(from + 72);
     match kind {
         0 => Setting::Number(number_in(r)),
-        1 => Setting::Text(Part { start, len }),
+        1 => Setting::String(Part { start, len }),
         2 => Setting::Wide(Part { start, len }),
         _ => Setting::Missing,
     }
@@ -196,7 +199,7 @@ pub fn lookup(table: &[u8], name: &[u8]) -> Setting
         let field = at + 64;
         let next = at + 128;
         if stands(&table[at..field], name) {
-            return hold(at, &table[at..next]);
+            return hold(Offset(at), &table[at..next]);
         }
         at = next;
     }

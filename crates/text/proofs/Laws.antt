@@ -100,16 +100,6 @@ part-rest s n = take-all (length s - n) (drop n s) (omega (arith, length-drop n 
 pub part-from : (s : List ℕ) (a k : ℕ) → take (a + k - a) (drop a s) ≡ take k (drop a s)
 part-from s a k = let e : a + k - a ≡ k = omega arith in rw e
 
--- after the bytes that are not zero stands a zero, or the list ends
-pub filled-end : (s : List ℕ) → getD s (span Filled s) 0 ≡ 0
-unfolding span
-filled-end [] = refl
-filled-end (b ∷ s) = by (eqb b 0) refl (filled-end s)
-  where
-    by : (t : Bool) → eqb b 0 ≡ t → getD s (span Filled s) 0 ≡ 0 → getD (b ∷ s) (pick (not t) (suc (span Filled s)) 0) 0 ≡ 0
-    by true e h = eqb-true b 0 e
-    by false e h = h
-
 neither : (v : Bool) → false ≡ pick v false false
 neither true = refl
 neither false = refl
@@ -186,17 +176,6 @@ pcd-fits s = by (initial (getD s 0 0)) (eqb (getD s n 0) (byte ".")) (initial (g
     by true true false e = omega arith
     by true false c e = omega arith
     by false b c e = omega arith
-
--- where a run ends before its list does, the next byte is not of the set
-pub span-next : (k : Set) (s : List ℕ) → span k s < length s → holds k (getD s (span k s) 0) ≡ false
-unfolding span
-span-next k [] h = absurd (omega arith)
-span-next k (b ∷ s) h = by (holds k b) refl h (span-next k s)
-  where
-    by : (t : Bool) → holds k b ≡ t → pick t (suc (span k s)) 0 < suc (length s) → (span k s < length s → holds k (getD s (span k s) 0) ≡ false)
-        → holds k (getD (b ∷ s) (pick t (suc (span k s)) 0) 0) ≡ false
-    by true e l ih = ih (omega arith)
-    by false e l ih = e
 
 -- a choice, by its test
 pub pick-case : {A : Type 0} (P : A → Type 0) (t : Bool) {x y : A} → (t ≡ true → P x) → (t ≡ false → P y) → P (pick t x y)

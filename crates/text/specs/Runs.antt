@@ -1,4 +1,4 @@
--- Runs: how many bytes at the front of a list belong to a set.
+-- Runs (document 01, "Tokens"): how many bytes at the front of a list belong to a set.
 use Prim.Native.Nat.{ℕ, zero, suc}
 use mathlib.Core.Bool.{Bool, true, false, not, _&&_, _||_}
 use mathlib.Core.List.{List, [], _∷_}

@@ -12,7 +12,7 @@ extern "C" {
         name: *const u8,
         name_len: usize,
         out: *mut u64,
-    );
+    ) -> u8;
     fn korzhinay_tokens(
         expr: *const u8,
         len: usize,
@@ -29,12 +29,13 @@ pub fn table(table: Input) -> u8 {
     unsafe { korzhinay_table(table.start, table.len) }
 }
 
-/// Kind, number or start, and length of a setting.
-pub fn lookup(table: Input, name: Input, pattern: u64) -> Result<[u64; 3], String> {
+/// 0 or the refusal number, and kind, number or start, and length of a setting.
+pub fn lookup(table: Input, name: Input, pattern: u64) -> Result<(u8, [u64; 3]), String> {
     let mut out = Buffer::new(3, pattern);
-    unsafe { korzhinay_lookup(table.start, table.len, name.start, name.len, out.start()) };
+    let refusal =
+        unsafe { korzhinay_lookup(table.start, table.len, name.start, name.len, out.start()) };
     out.check("lookup's three numbers")?;
-    Ok([out.cells()[0], out.cells()[1], out.cells()[2]])
+    Ok((refusal, [out.cells()[0], out.cells()[1], out.cells()[2]]))
 }
 
 /// Everything that a scan leaves in the caller's memory.

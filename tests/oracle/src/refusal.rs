@@ -10,7 +10,7 @@ pub const TOKEN: u8 = 3;
 pub const LITERAL: u8 = 4;
 /// Something other than blanks and a comment comes after token 200.
 pub const TOKEN_COUNT: u8 = 5;
-/// More than 16 parentheses are open at some token.
+/// At some token the `(` outnumber the `)` by more than 16.
 pub const DEPTH: u8 = 6;
 /// The tokens form no expression.
 pub const GRAMMAR: u8 = 7;

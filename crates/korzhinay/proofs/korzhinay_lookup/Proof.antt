@@ -1,95 +1,24 @@
--- Each arm stores what its setting shows.
-use mathlib.Core.Path.{refl}
-use Rattle.settings.specs.declared.Setting.the-variants.{Number, Text, Wide, Missing}
+-- The check decides whether the table is looked into.
+use mathlib.Core.Path.{sym, _∙_}
+use borrow.Author.Tests.{not-true, not-false}
 use borrow.Author.Needs.{needs}
 use Rattle.korzhinay.proofs.korzhinay_lookup.Statement.{statement}
 use Rattle.korzhinay.proofs.korzhinay_lookup.Tie as tie
 
-lookup-requires : tie.Need-lookup-requires
-lookup-requires c κs = search needs
-
-enum-known-value : tie.Need-enum-known-value
-enum-known-value c = search needs
-
-element-write-out : tie.Need-element-write-out
-element-write-out c = search needs
-
-element-write-out-2 : tie.Need-element-write-out-2
-element-write-out-2 c = search needs
-
-element-write-out-3 : tie.Need-element-write-out-3
-element-write-out-3 c = search needs
-
-enum-known-part : tie.Need-enum-known-part
-enum-known-part c = search needs
-
-element-write-out-4 : tie.Need-element-write-out-4
-element-write-out-4 c = search needs
-
-element-write-out-5 : tie.Need-element-write-out-5
-element-write-out-5 c = search needs
-
-element-write-out-6 : tie.Need-element-write-out-6
-element-write-out-6 c = search needs
-
-enum-known-part-2 : tie.Need-enum-known-part-2
-enum-known-part-2 c = search needs
-
-element-write-out-7 : tie.Need-element-write-out-7
-element-write-out-7 c = search needs
-
-element-write-out-8 : tie.Need-element-write-out-8
-element-write-out-8 c = search needs
-
-element-write-out-9 : tie.Need-element-write-out-9
-element-write-out-9 c = search needs
-
-enum-told : tie.Need-enum-told
-enum-told c = search needs
-
-element-write-out-10 : tie.Need-element-write-out-10
-element-write-out-10 c = search needs
-
-element-write-out-11 : tie.Need-element-write-out-11
-element-write-out-11 c = search needs
-
-element-write-out-12 : tie.Need-element-write-out-12
-element-write-out-12 c = search needs
+is-well-formed-requires : tie.Need-is-well-formed-requires
+is-well-formed-requires c κs = search needs
 
 returns : tie.Need-returns
-returns c = record { setting = Number (c .before .value .given .0 .0); looked-up = rw (c .before .value .given .1) at (c .before .before .before .lookup .ensures); written = refl }
+returns c = let w = sym (c .before .is-well-formed .ensures) ∙ not-true (c .before .is-well-formed .result) (c .if1 .taken) in
+    record { refused = rw w; written = rw w }
+
+show-requires : tie.Need-show-requires
+show-requires c κs = sym (c .before .before .is-well-formed .ensures) ∙ not-false (c .before .before .is-well-formed .result) (c .before .if1 .left)
 
 returns-2 : tie.Need-returns-2
-returns-2 c = record { setting = Text (c .before .before .part .given .0 .0); looked-up = rw (c .before .before .part .given .1) at (c .before .before .before .before .lookup .ensures); written = refl }
-
-returns-3 : tie.Need-returns-3
-returns-3 c = record { setting = Wide (c .before .before .part2 .given .0 .0); looked-up = rw (c .before .before .part2 .given .1) at (c .before .before .before .before .lookup .ensures); written = refl }
-
-returns-4 : tie.Need-returns-4
-returns-4 c = record { setting = Missing; looked-up = rw (c .enum-told .given .1) at (c .before .before .lookup .ensures); written = refl }
+returns-2 c = let w = sym (c .before .before .before .is-well-formed .ensures) ∙ not-false (c .before .before .before .is-well-formed .result) (c .before .before .if1 .left) in
+    record { refused = rw w; written = rw w (c .show .ensures) }
 
 pub korzhinay-lookup-spec : {M : Type 1} → statement M
 korzhinay-lookup-spec =
-    tie.close
-    (tie.spec
-    lookup-requires
-    enum-known-value
-    element-write-out
-    element-write-out-2
-    element-write-out-3
-    enum-known-part
-    element-write-out-4
-    element-write-out-5
-    element-write-out-6
-    enum-known-part-2
-    element-write-out-7
-    element-write-out-8
-    element-write-out-9
-    enum-told
-    element-write-out-10
-    element-write-out-11
-    element-write-out-12
-    returns
-    returns-2
-    returns-3
-    returns-4)
+    tie.close (tie.spec is-well-formed-requires returns show-requires returns-2)

@@ -20,13 +20,7 @@ element-write-out-2 c = search needs
 
 returns : tie.Need-returns
 returns c = let s = c .before .before .tokens .ensures in
-    record {
-      head = rw (c .number-of .ensures, s .ending, s .count);
-      codes-are = s .codes-are;
-      starts-are = s .starts-are;
-      lens-are = s .lens-are;
-      values-are = s .values-are;
-    }
+    record { head = rw (c .number-of .ensures, s .ending, s .count); tokens = s .tokens }
 
 pub korzhinay-tokens-spec : {M : Type 1} → statement M
 korzhinay-tokens-spec =
