@@ -1,0 +1,13 @@
+pub mod Codes
+pub mod Inside
+pub mod Induction
+pub mod Progress
+pub mod Lists
+pub mod Sound
+pub mod Steps
+pub mod Complete
+pub mod Fusion
+pub mod Counted
+pub mod Unambiguous
+pub mod Decided
+pub mod Examples

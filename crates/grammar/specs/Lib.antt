@@ -1,0 +1,6 @@
+pub mod Grammar
+pub mod Fold
+pub mod Parse
+pub mod Decides
+pub mod Table
+pub mod Examples
