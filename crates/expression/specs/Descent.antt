@@ -19,9 +19,13 @@ use Rattle.expression.specs.declared.descent.Parsed.the-variants.{Bad, G
 abbrev pub codeAt : List ℕ → ℕ → ℕ → ℕ
 codeAt cs n i = pick (ltb i n) (getD cs i 0) END
 
+-- an entry of token i, of n tokens; 0 past them
+abbrev pub entryAt : List ℕ → ℕ → ℕ → ℕ
+entryAt xs n i = pick (ltb i n) (getD xs i 0) 0
+
 -- token i in the four arrays
 abbrev pub tokenAt : (cs ss ls vs : List ℕ) → ℕ → ℕ → Token
-tokenAt cs ss ls vs n i = record { code = codeAt cs n i; start = getD ss i 0; len = getD ls i 0; value = getD vs i 0 }
+tokenAt cs ss ls vs n i = record { code = codeAt cs n i; start = entryAt ss n i; len = entryAt ls n i; value = entryAt vs n i }
 
 abbrev pub found : (e t : List ℕ) → Parsed → Result Attributes
 found e t (Bad i) = bad (i .0)

@@ -106,7 +106,8 @@ fn level_of(c: u8) -> u8
     if i < 36 { LEVELS[i] } else { 99 }
 }
 
-fn expression<'a>(
+// What stands from token i on: an operand of level 12, or a choice.
+pub fn expression<'a>(
     expr: &'a [u8],
     table: &'a [u8],
     codes: &'a [u8; 200],

@@ -11,3 +11,4 @@ pub mod Counted
 pub mod Unambiguous
 pub mod Decided
 pub mod Examples
+pub mod Bars

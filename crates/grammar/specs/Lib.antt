@@ -1,4 +1,5 @@
 pub mod Grammar
+pub mod Bars
 pub mod Fold
 pub mod Parse
 pub mod Decides

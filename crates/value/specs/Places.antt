@@ -1,4 +1,4 @@
--- The meaning of a value that the code holds: a string's place becomes the bytes that stand there.
+-- The meaning of a value that the code holds: with a string's place go the bytes that stand there.
 use mathlib.Core.List.{List}
 use lib.ListN.{take, drop}
 use Rattle.text.specs.Bytes.{pick}
@@ -18,8 +18,8 @@ bytesAt e t p = take (p .len) (drop (p .start .0) (pick (p .tabled) t e))
 
 abbrev pub meant : (e t : List ℕ) → Held → Value
 meant e t (Number x) = number x
-meant e t (String p) = string (bytesAt e t p)
-meant e t (Wide p) = wide (bytesAt e t p)
+meant e t (String p) = string p (bytesAt e t p)
+meant e t (Wide p) = wide p (bytesAt e t p)
 meant e t (Fault n) = fault n
 
 abbrev pub known : (e t : List ℕ) → Known → Attributes

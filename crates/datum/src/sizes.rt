@@ -1,0 +1,30 @@
+// The bytes of a datum's numbers, and the largest of them.
+use crate::codes;
+ghost use mathlib.Core.Path.{_≡_};
+ghost use Prim.Native.Nat.{_+_};
+ghost use Rattle.datum.specs.Encoding.{widthOf, limitOf};
+
+// How many bytes a number takes.
+pub fn width_of(datum: u8) -> usize
+    ensures { λ r. ⌜ r ≡ widthOf datum ⌝ }
+{
+    match datum {
+        codes::UINT16 => 2,
+        codes::UINT32 => 4,
+        codes::UINT64 => 8,
+        _ => 1,
+    }
+}
+
+// The largest number that a datum takes: the limit itself, 2^64 for UINT64, may be no `u64`.
+pub fn most_of(datum: u8) -> u64
+    ensures { λ r. ⌜ r + 1 ≡ limitOf datum ⌝ }
+{
+    match datum {
+        codes::BOOLEAN => 1,
+        codes::UINT16 => 0xffff,
+        codes::UINT32 => 0xffff_ffff,
+        codes::UINT64 => 0xffff_ffff_ffff_ffff,
+        _ => 0xff,
+    }
+}

@@ -1,0 +1,66 @@
+-- The loop's invariant: the bars of all tokens are those from token i on, with so many parentheses open. Each turn takes one token off.
+use Prim.Native.Nat.{_-_, _≤_}
+use native.Mathlib.Omega.{arith}
+use mathlib.Core.Path.{_≡_, refl, sym, _∙_}
+use lib.ListN.{getD, take, drop}
+use borrow.Author.Needs.{needs}
+use Rattle.grammar.specs.Bars.{barOutside}
+use Rattle.evaluation.proofs.Depth.{on, over, deeper-most}
+use Rattle.evaluation.proofs.bars.outside.Statement.{statement}
+use Rattle.evaluation.proofs.bars.outside.Tie as tie
+
+abbrev Inv-loop : tie.InvT-loop
+Inv-loop codes n depth₀ i₀ depth i = (i ≤ n) × (depth ≤ i) × (barOutside 0 (take n codes) ≡ barOutside depth (drop i (take n codes)))
+
+abbrev μ-loop : tie.MeasureT-loop
+μ-loop codes n depth₀ i₀ depth i = n - i
+
+loop-holds : tie.Need-loop-holds Inv-loop μ-loop
+loop-holds c = (omega arith, omega arith, refl)
+
+element-copy-out-c : tie.Need-element-copy-out-c Inv-loop μ-loop
+element-copy-out-c c = omega (arith, c .before .before .pre .0)
+
+is-outside-requires : tie.Need-is-outside-requires Inv-loop μ-loop
+is-outside-requires c κs = search needs
+
+returns : tie.Need-returns Inv-loop μ-loop
+returns c = let l = c .before .before .before .before .loop in
+    let s = c .before .before .before .before .before in
+    sym (l .inv .2 ∙ on (s .args .codes .now) (s .args .n) (s .pre .1) (l .i) (l .depth) (c .before .before .before .loop-test .taken) ∙ rw (← c .before .is-outside .ensures, c .if1 .taken))
+
+deeper-requires : tie.Need-deeper-requires Inv-loop μ-loop
+deeper-requires c κs = omega (arith, c .before .before .before .before .before .pre .0)
+
+add-i : tie.Need-add-i Inv-loop μ-loop
+add-i c = omega (arith, c .before .before .before .before .before .before .pre .0)
+
+loop-less : tie.Need-loop-less Inv-loop μ-loop
+loop-less c = omega arith
+
+loop-again : tie.Need-loop-again Inv-loop μ-loop
+loop-again c = let l = c .before .before .before .before .before .loop in
+    let s = c .before .before .before .before .before .before in
+    let d = c .deeper .ensures in
+    (omega arith, omega (arith, d, deeper-most (l .depth) (getD (s .args .codes .now) (l .i) 0)), l .inv .2 ∙ on (s .args .codes .now) (s .args .n) (s .pre .1) (l .i) (l .depth) (c .before .before .before .before .loop-test .taken) ∙ rw (← c .before .before .is-outside .ensures, c .before .if1 .left, d))
+
+returns-2 : tie.Need-returns-2 Inv-loop μ-loop
+returns-2 c = let l = c .before .loop in
+    let s = c .before .before in
+    sym (l .inv .2 ∙ over (s .args .codes .now) (s .args .n) (s .pre .1) (l .i) (l .depth) (c .loop-test .left))
+
+pub outside-spec : {M : Type 1} → statement M
+outside-spec =
+    tie.close
+    (tie.spec
+    Inv-loop
+    μ-loop
+    loop-holds
+    element-copy-out-c
+    is-outside-requires
+    returns
+    deeper-requires
+    add-i
+    loop-less
+    loop-again
+    returns-2)

@@ -1,0 +1,65 @@
+-- What the descent found is what the grammar's parser finds; a token left over is in the way.
+use native.Mathlib.Omega.{arith}
+use mathlib.Core.Path.{sym, _∙_}
+use borrow.Author.Needs.{needs}
+use Rattle.grammar.proofs.Steps.{whole-bad, whole-rest, whole-made}
+use Rattle.evaluation.proofs.outcome.conclude.Statement.{statement}
+use Rattle.evaluation.proofs.outcome.conclude.Tie as tie
+
+expression-requires : tie.Need-expression-requires
+expression-requires c κs =
+    let s = c .before .before in
+    record { sound = s .pre .0; few = s .pre .1; within = omega arith }
+
+enum-told : tie.Need-enum-told
+enum-told c = search needs
+
+refused-requires : tie.Need-refused-requires
+refused-requires c κs = search needs
+
+enum-known-a : tie.Need-enum-known-a
+enum-known-a c = search needs
+
+refused-requires-2 : tie.Need-refused-requires-2
+refused-requires-2 c κs = search needs
+
+returns : tie.Need-returns
+returns c =
+    let s = c .before .before .before .before .before .before .before .before in
+    let u = rw (c .before .before .before .a .given .1) at (c .before .before .before .before .before .expression .ensures) in
+    c .refused2 .ensures (s .args .expr .now) (s .args .table .now) ∙ rw (whole-rest u (c .before .if1 .taken))
+
+outside-requires : tie.Need-outside-requires
+outside-requires c κs =
+    let s = c .before .before .before .before .before .before .before in
+    (s .pre .1, s .pre .2)
+
+judge-requires : tie.Need-judge-requires
+judge-requires c κs = search needs
+
+returns-2 : tie.Need-returns-2
+returns-2 c =
+    let s = c .before .before .before .before .before .before in
+    let u = rw (c .before .enum-told .given .1) at (c .before .before .before .expression .ensures) in
+    c .refused .ensures (s .args .expr .now) (s .args .table .now) ∙ rw (whole-bad u)
+
+returns-3 : tie.Need-returns-3
+returns-3 c =
+    let s = c .before .before .before .before .before .before .before .before .before in
+    let u = rw (c .before .before .before .before .a .given .1) at (c .before .before .before .before .before .before .expression .ensures) in
+    c .judge .ensures (s .args .expr .now) (s .args .table .now) ∙ rw (c .before .outside .ensures, whole-made u (c .before .before .if1 .left))
+
+pub conclude-spec : {M : Type 1} → statement M
+conclude-spec =
+    tie.close
+    (tie.spec
+    expression-requires
+    enum-told
+    refused-requires
+    enum-known-a
+    refused-requires-2
+    returns
+    outside-requires
+    judge-requires
+    returns-2
+    returns-3)

@@ -1,0 +1,39 @@
+-- What is promised of the answer to an expression e over a table t, in terms of derivations: no promise here speaks of the parser.
+-- proofs/Answered.antt has the proofs.
+use Prim.Native.Nat.{ℕ, _<_}
+use mathlib.Core.Path.{_≡_}
+use mathlib.Core.Logic.{_↔_}
+use mathlib.Core.Bool.{true, false}
+use mathlib.Core.List.{List}
+use lib.ListN.{length}
+use Rattle.units.specs.Refusals.{TABLE-MALFORMED, NO-DERIVATION}
+use Rattle.units.specs.declared.Refusal.{Refusal}
+use Rattle.settings.specs.Table.{wellFormed}
+use Rattle.token.specs.Tokens.{Token, reading}
+use Rattle.token.specs.declared.scan.Ending.the-variants.{Complete, Refused}
+use Rattle.grammar.specs.Grammar.{Tree, expression, Derives}
+use Rattle.grammar.specs.Fold.{fold}
+use Rattle.grammar.specs.Bars.{bare}
+use Rattle.value.specs.Values.{Value, kindOf}
+use Rattle.expression.specs.Meaning.{codeOf, meaning}
+use Rattle.evaluation.specs.Evaluation.{value, refused, refusedWith, judged, evaluation}
+
+-- a malformed table is 1, whatever the expression; then come the refusals that reading the expression meets, 2 to 6
+pub record Unread (e t : List ℕ) : Type 0 where
+  pub malformed : wellFormed t ≡ false → evaluation e t ≡ refusedWith TABLE-MALFORMED
+  pub unread : wellFormed t ≡ true → (r : Refusal) → reading e .ending ≡ Refused r → evaluation e t ≡ refused r
+
+-- over a well-formed table, where reading met no refusal
+pub record Exact (e t : List ℕ) : Type 0 where
+  -- 7 exactly if no derivation of the whole list of tokens exists (demand 2)
+  pub underived : (evaluation e t ≡ refusedWith NO-DERIVATION) ↔ ((s : Tree Token) → Derives codeOf expression (reading e .tokens) s → ⊥)
+  -- else what the tree folds to decides, and whether the derivation has a bar outside parentheses
+  pub derived : (s : Tree Token) (d : Derives codeOf expression (reading e .tokens) s)
+      → evaluation e t ≡ judged (bare codeOf d) (fold (meaning e t) s)
+  -- a value is of the kind that was settled for the tree, whatever was skipped
+  pub settled : (s : Tree Token) → Derives codeOf expression (reading e .tokens) s
+      → (v : Value) (n : ℕ) → evaluation e t ≡ value v n → kindOf v ≡ fold (meaning e t) s .kind
+
+-- with a value, fewer operators were applied than the expression has tokens
+abbrev pub Counted : (e t : List ℕ) → Type 0
+Counted e t = (v : Value) (n : ℕ) → evaluation e t ≡ value v n → n < length (reading e .tokens)

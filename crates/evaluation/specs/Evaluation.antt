@@ -1,0 +1,101 @@
+-- The answer to an expression (document 01, "Kinds and values" and "Refusal numbers"): its value and how many operators were applied,
+-- or a refusal. Refusals are asked in this order: 1; 2; 3, 4 and 5 as they are met; 6; 7; 8; 9; 10; 11 and 12 as evaluation meets them.
+use Prim.Native.Nat.{ℕ}
+use mathlib.Core.Bool.{Bool}
+use mathlib.Core.List.{List, []}
+use lib.ListN.{length, getD}
+use lib.Dec.{eqb}
+use Rattle.units.specs.Refusals.{TABLE-MALFORMED, NO-DERIVATION, BAR-OUTSIDE, PCD-MISSING, KINDS-UNSUITED, refusal}
+use Rattle.units.specs.declared.Refusal.{Refusal}
+use Rattle.text.specs.Bytes.{pick}
+use Rattle.settings.specs.Table.{wellFormed}
+use Rattle.token.specs.Tokens.{Token, codesOf, reading}
+use Rattle.token.specs.declared.scan.Ending.{Ending}
+use Rattle.token.specs.declared.scan.Ending.the-variants.{Complete, Refused}
+use Rattle.grammar.specs.Parse.{END, Outcome, refused as underived, accepted, parse}
+use Rattle.value.specs.Kinds.{kindNumber}
+use Rattle.value.specs.Values.{Value, number, string, wide, fault}
+use Rattle.value.specs.Attributes.{Attributes}
+use Rattle.value.specs.Places.{bytesAt}
+use Rattle.value.specs.declared.Kind.{Kind}
+use Rattle.value.specs.declared.Kind.the-variants.{Clash}
+use Rattle.expression.specs.Meaning.{codeOf, meaning}
+use Rattle.grammar.specs.Bars.{barOutside}
+use Rattle.evaluation.specs.declared.Value.{Value as Held}
+use Rattle.evaluation.specs.declared.Value.the-variants.{Number, String, Wide}
+use Rattle.evaluation.specs.declared.Answer.{Answer}
+use Rattle.evaluation.specs.declared.Answer.the-variants.{Value as Given, Refused as Refusing}
+
+-- a value with its count of applied operators, or a refusal with its number and line
+pub data Evaluation : Type 0 where
+  value : Value → (count : ℕ) → Evaluation
+  refused : Refusal → Evaluation
+
+-- an expression by itself has line 0
+abbrev pub refusedWith : ℕ → Evaluation
+refusedWith n = refused (refusal n)
+
+-- the value, or the refusal 11 or 12 that evaluation met first
+abbrev pub finished : Value → (count : ℕ) → Evaluation
+finished (number x) n = value (number x) n
+finished (string p s) n = value (string p s) n
+finished (wide p s) n = value (wide p s) n
+finished (fault r) n = refusedWith r
+
+abbrev pub clashes : Kind → Bool
+clashes k = eqb (kindNumber k) (kindNumber Clash)
+
+-- what is known of an expression that derives, and whether a bar stands outside parentheses: 8, 9, 10, else what evaluation gave
+abbrev pub judged : (bar : Bool) → Attributes → Evaluation
+judged bar a =
+    pick bar (refusedWith BAR-OUTSIDE)
+    (pick (a .missing) (refusedWith PCD-MISSING)
+    (pick (clashes (a .kind)) (refusedWith KINDS-UNSUITED)
+    (finished (a .value) (a .count))))
+
+-- token i of a list; past its end a token that nothing derives
+abbrev pub END-TOKEN : Token
+END-TOKEN = record { code = END; start = 0; len = 0; value = 0 }
+
+abbrev pub tokenIn : List Token → ℕ → Token
+tokenIn ts i = getD ts i END-TOKEN
+
+-- 7 where the tokens have no derivation, else what their tree folds to is judged
+abbrev pub concluded : (codes : List ℕ) → Outcome Attributes → Evaluation
+concluded cs (underived i) = refusedWith NO-DERIVATION
+concluded cs (accepted a) = judged (barOutside 0 cs) a
+
+-- the answer to a list of tokens that was read in an expression e, over a table t
+unfoldable pub ofTokens : (e t : List ℕ) → List Token → Evaluation
+ofTokens e t ts = concluded (codesOf ts) (parse codeOf (meaning e t) (tokenIn ts) (length ts))
+
+-- the refusal that reading met, else the answer to the tokens
+abbrev pub ended : Ending → Evaluation → Evaluation
+ended (Refused r) x = refused r
+ended Complete x = x
+
+-- the answer over a table that is well formed
+unfoldable pub inSoundTable : (e t : List ℕ) → Evaluation
+inSoundTable e t = let given = ofTokens e t (reading e .tokens) in ended (reading e .ending) given
+
+-- the answer to an expression e over a table t
+unfoldable pub evaluation : (e t : List ℕ) → Evaluation
+evaluation e t = let given = inSoundTable e t in pick (wellFormed t) given (refusedWith TABLE-MALFORMED)
+
+-- what the code's answer says: a string's place becomes the place and the bytes that stand there
+abbrev pub held : (e t : List ℕ) → Held → Value
+held e t (Number x) = number x
+held e t (String p) = string p (bytesAt e t p)
+held e t (Wide p) = wide p (bytesAt e t p)
+
+abbrev pub stated : (e t : List ℕ) → Answer → Evaluation
+stated e t (Given v n) = value (held e t v) n
+stated e t (Refusing r) = refused r
+
+-- the bytes of a string, none of a number or a refusal
+abbrev pub textOf : Evaluation → List ℕ
+textOf (value (number x) n) = []
+textOf (value (string p s) n) = s
+textOf (value (wide p s) n) = s
+textOf (value (fault r) n) = []
+textOf (refused r) = []

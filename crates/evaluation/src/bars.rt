@@ -1,0 +1,53 @@
+// Bars outside parentheses.
+use lexeme::codes;
+ghost use mathlib.Core.Path.{_≡_};
+ghost use mathlib.Core.Bool.{_&&_};
+ghost use Prim.Native.Nat.{_≤_, _<_};
+ghost use lib.ListN.{length, take};
+ghost use lib.Dec.{eqb};
+ghost use Rattle.grammar.specs.Bars.{isBar, deeper as deeperOf, barOutside};
+
+fn is_bar(c: u8) -> bool
+    ensures { λ r. ⌜ r ≡ isBar c ⌝ }
+{
+    c == codes::BIT_OR || c == codes::OR_BARS
+}
+
+// Whether this token is a bar where no parenthesis is open.
+fn is_outside(depth: usize, c: u8) -> bool
+    ensures { λ r. ⌜ r ≡ (isBar c && eqb depth 0) ⌝ }
+{
+    is_bar(c) && depth == 0
+}
+
+// How many parentheses are open after a token.
+fn deeper(depth: usize, c: u8) -> usize
+    requires { ⌜ depth < 200 ⌝ }
+    ensures { λ r. ⌜ r ≡ deeperOf depth c ⌝ }
+{
+    if c == codes::OPEN {
+        return depth + 1;
+    }
+    if c != codes::CLOSE {
+        return depth;
+    }
+    if depth == 0 { 0 } else { depth - 1 }
+}
+
+// Whether some bar of the first n tokens stands outside all parentheses.
+pub fn outside(codes: &[u8; 200], n: usize) -> bool
+    requires { ⌜ (n ≤ 200) × (n ≤ length (now codes)) ⌝ }
+    ensures { λ r. ⌜ r ≡ barOutside 0 (take n (now (codes .entry))) ⌝ }
+{
+    let mut depth: usize = 0;
+    let mut i: usize = 0;
+    while i < n {
+        let c = codes[i];
+        if is_outside(depth, c) {
+            return true;
+        }
+        depth = deeper(depth, c);
+        i += 1;
+    }
+    false
+}

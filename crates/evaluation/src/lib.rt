@@ -1,0 +1,19 @@
+// The answer to an expression: its value and how many operators were applied, or a refusal.
+pub mod bars;
+pub mod outcome;
+
+use units::Refusal;
+use value::Place;
+
+// A value by its kind. A string is the part of the expression or of the table where it stands.
+pub enum Value {
+    Number(u64),
+    String(Place),
+    Wide(Place),
+}
+
+// A value with the count of operators, or the refusal.
+pub enum Answer {
+    Value(Value, usize),
+    Refused(Refusal),
+}

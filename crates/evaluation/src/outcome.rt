@@ -1,0 +1,137 @@
+// The answer to an expression, and the part of memory that holds a string.
+use crate::Answer;
+use crate::Value;
+use crate::bars;
+use expression::descent;
+use expression::descent::Parsed;
+use token::scan;
+use token::scan::Ending;
+use value::Held;
+use value::Kind;
+use value::Known;
+use value::values;
+ghost use mathlib.Core.Path.{_≡_};
+ghost use mathlib.Core.Bool.{true};
+ghost use mathlib.Core.List.{List};
+ghost use Prim.Native.Nat.{ℕ, _≤_};
+ghost use lib.ListN.{length, take};
+ghost use Rattle.settings.specs.Table.{wellFormed};
+ghost use Rattle.grammar.specs.Parse.{parse};
+ghost use Rattle.value.specs.Places.{meant, known};
+ghost use Rattle.expression.specs.Meaning.{codeOf, meaning};
+ghost use Rattle.expression.specs.Descent.{tokenAt};
+ghost use Rattle.evaluation.specs.Evaluation.{refusedWith, finished, clashes as clashesOf, judged, concluded, inSoundTable, evaluation, stated, textOf};
+
+fn refused(number: u8) -> Answer
+    ensures { λ r. ⌜ ((e t : List ℕ) → stated e t r ≡ refusedWith number) ⌝ }
+{
+    Answer::Refused(units::refuse(number))
+}
+
+// A value that evaluation ended with, or the refusal that it met.
+fn finish(value: Held, count: usize) -> Answer
+    ensures { λ r. ⌜ ((e t : List ℕ) → stated e t r ≡ finished (meant e t value) count) ⌝ }
+{
+    match value {
+        Held::Number(x) => Answer::Value(Value::Number(x), count),
+        Held::String(p) => Answer::Value(Value::String(p), count),
+        Held::Wide(p) => Answer::Value(Value::Wide(p), count),
+        Held::Fault(number) => refused(number),
+    }
+}
+
+fn clashes(k: Kind) -> bool
+    ensures { λ r. ⌜ r ≡ clashesOf k ⌝ }
+{
+    match k {
+        Kind::Number => false,
+        Kind::String => false,
+        Kind::Wide => false,
+        Kind::Clash => true,
+    }
+}
+
+// What is answered where the tokens derive.
+fn judge(bar: bool, a: Known) -> Answer
+    ensures { λ r. ⌜ ((e t : List ℕ) → stated e t r ≡ judged bar (known e t a)) ⌝ }
+{
+    if bar {
+        return refused(units::BAR_OUTSIDE);
+    }
+    if a.missing {
+        return refused(units::PCD_MISSING);
+    }
+    let kind = a.kind;
+    if clashes(kind) {
+        return refused(units::KINDS_UNSUITED);
+    }
+    let value = a.value;
+    finish(value, a.count)
+}
+
+// The answer to the first n tokens of the arrays.
+fn conclude<'a>(
+    expr: &'a [u8],
+    table: &'a [u8],
+    codes: &'a [u8; 200],
+    starts: &'a [u16; 200],
+    lens: &'a [u16; 200],
+    values: &'a [u64; 200],
+    n: usize,
+) -> Answer
+    requires { ⌜ (wellFormed (now table) ≡ true) × (n ≤ 200) × (n ≤ length (now codes)) ⌝ }
+    ensures { λ r. ⌜ stated (now (expr .entry)) (now (table .entry)) r ≡ concluded (take n (now (codes .entry))) (parse codeOf (meaning (now (expr .entry)) (now (table .entry))) (tokenAt (now (codes .entry)) (now (starts .entry)) (now (lens .entry)) (now (values .entry)) n) n) ⌝ }
+{
+    match descent::expression(expr, table, codes, starts, lens, values, n, 0) {
+        Parsed::Bad(_) => refused(units::NO_DERIVATION),
+        Parsed::Got(a, end) => {
+            let j = end.0;
+            if j != n {
+                return refused(units::NO_DERIVATION);
+            }
+            judge(bars::outside(codes, n), a)
+        }
+    }
+}
+
+// The answer over a table that is known to be well formed.
+pub fn in_sound_table<'a>(expr: &'a [u8], table: &'a [u8]) -> Answer
+    requires { ⌜ wellFormed (now table) ≡ true ⌝ }
+    ensures { λ r. ⌜ stated (now (expr .entry)) (now (table .entry)) r ≡ inSoundTable (now (expr .entry)) (now (table .entry)) ⌝ }
+{
+    let mut codes = [0u8; 200];
+    let mut starts = [0u16; 200];
+    let mut lens = [0u16; 200];
+    let mut values = [0u64; 200];
+    let s = scan::tokens(&mut codes, &mut starts, &mut lens, &mut values, expr);
+    let ending = s.ending;
+    let read = s.tokens;
+    match ending {
+        Ending::Refused(r) => Answer::Refused(r),
+        Ending::Complete => conclude(expr, table, &codes, &starts, &lens, &values, read.0),
+    }
+}
+
+// The answer to an expression over a table, whatever their bytes.
+pub fn evaluate<'a>(expr: &'a [u8], table: &'a [u8]) -> Answer
+    ensures { λ r. ⌜ stated (now (expr .entry)) (now (table .entry)) r ≡ evaluation (now (expr .entry)) (now (table .entry)) ⌝ }
+{
+    if !settings::is_well_formed(table) {
+        return refused(units::TABLE_MALFORMED);
+    }
+    in_sound_table(expr, table)
+}
+
+// The part of the expression or of the table that holds an answer's string; an empty part for a number and for a refusal.
+pub fn string<'a>(expr: &'a [u8], table: &'a [u8], a: Answer) -> &'a [u8]
+    ensures { λ r. ⌜ now r ≡ textOf (stated (now (expr .entry)) (now (table .entry)) a) ⌝ }
+{
+    match a {
+        Answer::Value(v, _) => match v {
+            Value::Number(_) => &expr[0..0],
+            Value::String(p) => values::bytes(expr, table, p),
+            Value::Wide(p) => values::bytes(expr, table, p),
+        },
+        Answer::Refused(_) => &expr[0..0],
+    }
+}

@@ -1,0 +1,23 @@
+-- The data field that an expression's value makes (document 01, "Field bytes"): the expression's own refusals first, then 23 to 26.
+use Prim.Native.Nat.{ℕ}
+use mathlib.Core.List.{List}
+use Rattle.value.specs.Values.{Value, number, string, wide, fault}
+use Rattle.evaluation.specs.Evaluation.{Evaluation, value, refused, evaluation}
+use Rattle.datum.specs.Encoding.{Encoding, unfit, terminated, widened, numberField, stringField, Field, fitted}
+use Rattle.datum.specs.declared.Written.the-variants.{Refused}
+
+-- a value's bytes for a datum, by its kind (an answer never has a fault for its value)
+abbrev pub encoding : (datum : ℕ) → Value → Encoding
+encoding d (number x) = numberField d x
+encoding d (string p s) = stringField d (terminated s)
+encoding d (wide p s) = stringField d (widened s)
+encoding d (fault r) = unfit r
+
+-- the expression's refusal, which leaves the buffer, or its value's bytes at the buffer's front
+abbrev pub written : Evaluation → (datum : ℕ) → (buffer : List ℕ) → Field
+written (refused r) d b = record { answer = Refused r; buffer = b }
+written (value v n) d b = fitted (encoding d v) b
+
+-- the field of an expression e over a table t
+unfoldable pub fieldOf : (e t : List ℕ) → (datum : ℕ) → (buffer : List ℕ) → Field
+fieldOf e t d b = written (evaluation e t) d b

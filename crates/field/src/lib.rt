@@ -1,0 +1,22 @@
+// One PCD data field: an expression's value in the bytes of its datum.
+use datum::Written;
+use evaluation::Answer;
+use evaluation::Value;
+use evaluation::outcome;
+ghost use Rattle.datum.specs.Encoding.{Writes};
+ghost use Rattle.field.specs.Fields.{fieldOf};
+
+// Writes the field to the front of the buffer and gives its length; a refusal writes nothing. `code` is the datum's.
+pub fn field<'a>(buffer: &mut [u8], expr: &'a [u8], table: &'a [u8], code: u8) -> Written
+    ensures { λ r. ⌜ Writes (fieldOf (now (expr .entry)) (now (table .entry)) code (now (buffer .entry))) r (now (buffer .exit)) ⌝ }
+{
+    let answer = outcome::evaluate(expr, table);
+    match answer {
+        Answer::Refused(r) => Written::Refused(r),
+        Answer::Value(v, _) => match v {
+            Value::Number(x) => datum::number(buffer, code, x),
+            Value::String(_) => datum::string(buffer, code, outcome::string(expr, table, answer)),
+            Value::Wide(_) => datum::wide(buffer, code, outcome::string(expr, table, answer)),
+        },
+    }
+}

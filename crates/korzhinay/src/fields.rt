@@ -1,0 +1,28 @@
+// The call on data fields.
+use datum::Written;
+ghost use Rattle.field.specs.Fields.{fieldOf};
+ghost use Rattle.korzhinay.specs.FieldCall.{Fills};
+
+// The bytes of a data field: 0, its length, and the field at the buffer's front; or the refusal number, a length of 0, and the buffer
+// as it was.
+#[no_mangle]
+pub extern "C" fn korzhinay_field<'a>(
+    buffer: &mut [u8],
+    expr: &'a [u8],
+    table: &'a [u8],
+    datum: u8,
+    length: &mut u64,
+) -> u8
+    ensures { λ r. ⌜ Fills (fieldOf (now (expr .entry)) (now (table .entry)) datum (now (buffer .entry))) r (now (length .exit)) (now (buffer .exit)) ⌝ }
+{
+    match field::field(buffer, expr, table, datum) {
+        Written::Length(n) => {
+            *length = n as u64;
+            0
+        }
+        Written::Refused(r) => {
+            *length = 0;
+            r.number
+        }
+    }
+}
