@@ -1,7 +1,8 @@
 /* Korzhinay: the calls that C, Rust and Python can make.
  *
  * Every call is total: it answers for any bytes. A pointer with a length of 0 is not read and may be null.
- * Lent arrays are written as each call says, and nowhere else. The library keeps no state.
+ * Lent arrays are written as each call says, and nowhere else; they must not overlap what the same call reads. The library keeps no
+ * state.
  */
 #ifndef KORZHINAY_H
 #define KORZHINAY_H
@@ -65,6 +66,64 @@ enum korzhinay_code {
     KORZHINAY_XOR = 33,           /* XOR xor */
     KORZHINAY_OR_BARS = 34,       /* || */
     KORZHINAY_OR = 35             /* OR or */
+};
+
+/* The value of an expression under a table: 0 and the answer, or the refusal number, and then all six numbers are 0.
+ *   out[0]  the kind, one of enum korzhinay_kind
+ *   out[1]  the number; 0 for a string
+ *   out[2]  how many operators were applied: every unary or binary one and every `?:` that was reached; parentheses are none
+ *   out[3]  in which of the caller's arrays a string's bytes stand, one of enum korzhinay_memory; 0 for a number
+ *   out[4]  where they start in it; 0 for a number. An empty string starts between its quotes, or at byte 72 of its record
+ *   out[5]  how many they are, quotes left off; 0 for a number
+ * Refusals, of which the first that applies is given; of 3, 4 and 5 the leftmost, of 11 and 12 the one that evaluation meets first:
+ *    1  the table is malformed
+ *    2  the expression is longer than 1,024 bytes
+ *    3  no token can be read at some byte
+ *    4  a number literal is above 2^64 - 1
+ *    5  something follows token 200
+ *    6  at some token `(` outnumber `)` by more than 16
+ *    7  the tokens form no expression, or there are none
+ *    8  `|` or `||` stands outside parentheses
+ *    9  a PCD is not in the table, in an operand that evaluation would skip too
+ *   10  an operator does not take operands of these kinds, in an operand that evaluation would skip too
+ *   11  a result is below 0 or above 2^64 - 1
+ *   12  zero divisor */
+uint8_t korzhinay_evaluate(const uint8_t *expression, size_t expression_len, const uint8_t *table, size_t table_len,
+                           uint64_t out[6]);
+
+/* The kinds of a value. */
+enum korzhinay_kind {
+    KORZHINAY_KIND_NUMBER = 0,
+    KORZHINAY_KIND_STRING = 1,
+    KORZHINAY_KIND_WIDE = 2
+};
+
+/* The arrays that a string value can be a part of. */
+enum korzhinay_memory {
+    KORZHINAY_IN_EXPRESSION = 0,
+    KORZHINAY_IN_TABLE = 1
+};
+
+/* The bytes of one PCD data field. With 0 the field stands at the front of buffer, *length is how many bytes it has, and the bytes
+ * past it stay. With a refusal *length is 0 and every byte of buffer stays.
+ * The field is a number in 1, 1, 2, 4 or 8 bytes, little endian, for BOOLEAN and UINT8 to UINT64; for VOID* it is a string and one
+ * zero byte, or a wide string as two bytes for each of its own, that one and a zero, and two zero bytes.
+ * Refusals: those of korzhinay_evaluate, 1 to 12; then, of which the first that applies is given:
+ *   23  datum is none of enum korzhinay_datum
+ *   24  the value's kind does not suit the datum: a number for VOID*, or a string for any other
+ *   25  the number is too large for the datum; for BOOLEAN it is above 1
+ *   26  buffer is shorter than the field */
+uint8_t korzhinay_field(uint8_t *buffer, size_t buffer_len, const uint8_t *expression, size_t expression_len,
+                        const uint8_t *table, size_t table_len, uint8_t datum, uint64_t *length);
+
+/* The datum codes of a field. */
+enum korzhinay_datum {
+    KORZHINAY_DATUM_VOID = 0,
+    KORZHINAY_DATUM_BOOLEAN = 1,
+    KORZHINAY_DATUM_UINT8 = 2,
+    KORZHINAY_DATUM_UINT16 = 3,
+    KORZHINAY_DATUM_UINT32 = 4,
+    KORZHINAY_DATUM_UINT64 = 5
 };
 
 #ifdef __cplusplus

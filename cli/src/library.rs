@@ -2,40 +2,17 @@
 
 use std::ffi::c_void;
 
-mod c {
-    use std::ffi::c_void;
-
-    extern "C" {
-        pub fn korzhinay_table(table: *const c_void, table_len: usize) -> u8;
-        pub fn korzhinay_lookup(
-            table: *const c_void,
-            table_len: usize,
-            name: *const c_void,
-            name_len: usize,
-            out: *mut u64,
-        ) -> u8;
-        pub fn korzhinay_tokens(
-            expression: *const c_void,
-            expression_len: usize,
-            out: *mut u64,
-            codes: *mut u8,
-            starts: *mut u16,
-            lens: *mut u16,
-            values: *mut u64,
-        );
-    }
-}
+use crate::c;
 
 fn pointer(bytes: &[u8]) -> *const c_void {
     bytes.as_ptr().cast()
 }
 
-/// What stands under a name.
-pub enum Setting<'a> {
+/// A value; a string's bytes are those of the expression or the table.
+pub enum Value<'a> {
     Number(u64),
     Text(&'a [u8]),
     Wide(&'a [u8]),
-    Missing,
 }
 
 /// One token of an expression.
@@ -60,7 +37,7 @@ pub fn check_table(table: &[u8]) -> Option<u8> {
 }
 
 /// What stands under a name in a table; nothing does in one that is malformed.
-pub fn lookup<'a>(table: &'a [u8], name: &[u8]) -> Setting<'a> {
+pub fn lookup<'a>(table: &'a [u8], name: &[u8]) -> Option<Value<'a>> {
     let mut out = [0u64; 3];
     // SAFETY: the call reads the two slices and writes the three numbers.
     let refused = unsafe {
@@ -73,14 +50,14 @@ pub fn lookup<'a>(table: &'a [u8], name: &[u8]) -> Setting<'a> {
         )
     };
     if refused != 0 {
-        return Setting::Missing;
+        return None;
     }
     let part = || &table[out[1] as usize..][..out[2] as usize];
     match out[0] {
-        0 => Setting::Number(out[1]),
-        1 => Setting::Text(part()),
-        2 => Setting::Wide(part()),
-        _ => Setting::Missing,
+        0 => Some(Value::Number(out[1])),
+        1 => Some(Value::Text(part())),
+        2 => Some(Value::Wide(part())),
+        _ => None,
     }
 }
 
@@ -115,4 +92,56 @@ pub fn tokens(expression: &[u8]) -> Tokens {
         read,
         refusal: (out[0] != 0).then_some(out[0] as u8),
     }
+}
+
+/// The value of an expression under a table, or the refusal number.
+pub fn evaluate<'a>(expression: &'a [u8], table: &'a [u8]) -> Result<Value<'a>, u8> {
+    let mut out = [0u64; 6];
+    // SAFETY: the call reads the two slices and writes the six numbers.
+    let refusal = unsafe {
+        c::korzhinay_evaluate(
+            pointer(expression),
+            expression.len(),
+            pointer(table),
+            table.len(),
+            out.as_mut_ptr(),
+        )
+    };
+    if refusal != 0 {
+        return Err(refusal);
+    }
+    let [kind, number, _, memory, start, len] = out;
+    let part = || &[expression, table][memory as usize][start as usize..][..len as usize];
+    Ok(match kind {
+        0 => Value::Number(number),
+        1 => Value::Text(part()),
+        _ => Value::Wide(part()),
+    })
+}
+
+/// More bytes than any field has: a wide string takes two for each of its own, which are fewer than the expression's 1,024.
+const LONGEST_FIELD: usize = 2 * 1024;
+
+/// The bytes of a data field, or the refusal number.
+pub fn field(expression: &[u8], table: &[u8], datum: u8) -> Result<Vec<u8>, u8> {
+    let mut buffer = vec![0; LONGEST_FIELD];
+    let mut length = 0;
+    // SAFETY: the call reads the two slices and writes within the buffer and the length.
+    let refusal = unsafe {
+        c::korzhinay_field(
+            buffer.as_mut_ptr().cast(),
+            buffer.len(),
+            pointer(expression),
+            expression.len(),
+            pointer(table),
+            table.len(),
+            datum,
+            &mut length,
+        )
+    };
+    if refusal != 0 {
+        return Err(refusal);
+    }
+    buffer.truncate(length as usize);
+    Ok(buffer)
 }

@@ -1,47 +1,49 @@
 //! The command `korzhinay`: it reads, calls the proved library and prints. Exit status: 0 an answer, 1 a refusal, 2 wrong usage or a
 //! file that cannot be read.
 
+mod c;
 mod library;
+mod list;
+mod outcome;
+mod value;
 mod words;
 
 use std::env;
-use std::fs;
-use std::io::{self, Read, Write};
 use std::os::unix::ffi::OsStrExt;
 use std::process::ExitCode;
 
-use library::Setting;
+use outcome::{print, Stop};
 
-const USAGE: &str = "usage: korzhinay tokens EXPRESSION
-       korzhinay table FILE
+const USAGE: &str = "usage: korzhinay eval [-t TABLE] EXPRESSION
+       korzhinay field --datum TYPE [-t TABLE] EXPRESSION
+       korzhinay tokens EXPRESSION
+       korzhinay table TABLE
 
+eval    prints the value of an expression: a number in decimal, a string in double quotes, a wide string with L before them
+field   prints the bytes of a PCD data field in hexadecimal; TYPE is VOID*, BOOLEAN, UINT8, UINT16, UINT32 or UINT64
 tokens  lists the tokens of an expression: where each starts, how many bytes it has, what it is, its text and,
         for a number or a truth word, its value
-table   checks a table of settings (records of 128 bytes) and lists its names and values; - reads standard input
+table   checks a table of settings and lists its names and values
 
-example: korzhinay tokens '$(WEEK) GE 48 OR $(WEEK) LE 5'
+TABLE is a file of records of 128 bytes; - reads standard input. Without -t no name is set.
+example: korzhinay eval '$(WEEK) GE 48 OR $(WEEK) LE 5'
 exit status: 0 an answer, 1 a refusal, 2 wrong usage or a file that cannot be read";
-
-/// How a run ends when it has no answer.
-enum Stop {
-    Refused(String, u8),
-    Failed(String),
-    Usage,
-}
 
 fn main() -> ExitCode {
     let arguments: Vec<_> = env::args_os().skip(1).collect();
     let words: Vec<&[u8]> = arguments.iter().map(|word| word.as_bytes()).collect();
     let outcome = match words.as_slice() {
-        [b"--help" | b"-h"] => print(format!("{USAGE}\n").into_bytes()),
-        [b"tokens", expression] => tokens(expression),
-        [b"table", _] => table(&arguments[1].to_string_lossy()),
+        [b"--help" | b"-h"] => print(format!("{USAGE}\n").as_bytes()),
+        [b"eval", rest @ ..] => value::eval(rest),
+        [b"field", rest @ ..] => value::field(rest),
+        [b"tokens", expression] => list::tokens(expression),
+        [b"table", file] => list::table(file),
         _ => Err(Stop::Usage),
     };
     match outcome {
         Ok(()) => ExitCode::SUCCESS,
-        Err(Stop::Refused(place, number)) => {
-            eprintln!("{place}: refused ({number}): {}", words::refusal(number));
+        Err(Stop::Refused(what, number)) => {
+            eprintln!("{what}: refused ({number}): {}", words::refusal(number));
             ExitCode::from(1)
         }
         Err(Stop::Failed(message)) => {
@@ -53,71 +55,4 @@ fn main() -> ExitCode {
             ExitCode::from(2)
         }
     }
-}
-
-fn print(text: Vec<u8>) -> Result<(), Stop> {
-    io::stdout()
-        .write_all(&text)
-        .map_err(|error| Stop::Failed(format!("standard output: {error}")))
-}
-
-fn tokens(expression: &[u8]) -> Result<(), Stop> {
-    let found = library::tokens(expression);
-    let mut text = Vec::new();
-    for token in &found.read {
-        let spelling = &expression[token.start..][..token.len];
-        text.extend(
-            format!(
-                "{:>4} {:>4}  {:<11}  ",
-                token.start,
-                token.len,
-                words::code(token.code)
-            )
-            .bytes(),
-        );
-        text.extend(spelling);
-        if token.code <= 1 {
-            text.extend(format!("  = {}", token.value).bytes());
-        }
-        text.push(b'\n');
-    }
-    print(text)?;
-    match found.refusal {
-        None => Ok(()),
-        Some(number) => Err(Stop::Refused("expression".into(), number)),
-    }
-}
-
-fn table(file: &str) -> Result<(), Stop> {
-    let mut bytes = Vec::new();
-    let outcome = match file {
-        "-" => io::stdin().read_to_end(&mut bytes).map(|_| ()),
-        _ => fs::read(file).map(|read| bytes = read),
-    };
-    outcome.map_err(|error| Stop::Failed(format!("{file}: {error}")))?;
-    if let Some(number) = library::check_table(&bytes) {
-        return Err(Stop::Refused(file.into(), number));
-    }
-    let mut text = Vec::new();
-    for record in bytes.chunks(128) {
-        let name = record[..64]
-            .split(|byte| *byte == 0)
-            .next()
-            .unwrap_or_default();
-        text.extend(name);
-        match library::lookup(&bytes, name) {
-            Setting::Number(value) => text.extend(format!("={value}").bytes()),
-            Setting::Text(string) => quote(&mut text, "=\"", string),
-            Setting::Wide(string) => quote(&mut text, "=L\"", string),
-            Setting::Missing => text.extend(b" is missing"),
-        }
-        text.push(b'\n');
-    }
-    print(text)
-}
-
-fn quote(text: &mut Vec<u8>, start: &str, string: &[u8]) {
-    text.extend(start.bytes());
-    text.extend(string);
-    text.push(b'"');
 }

@@ -1,4 +1,4 @@
-//! Numbers of the library in words.
+//! Numbers of the library in words, and datum types in numbers.
 
 /// What a refusal number means.
 pub fn refusal(number: u8) -> &'static str {
@@ -9,6 +9,16 @@ pub fn refusal(number: u8) -> &'static str {
         4 => "a number literal is above 2^64 - 1",
         5 => "something follows token 200",
         6 => "at some token `(` outnumber `)` by more than 16",
+        7 => "the tokens form no expression",
+        8 => "`|` or `||` stands outside parentheses",
+        9 => "a PCD is not in the table",
+        10 => "an operator does not take operands of these kinds",
+        11 => "a result is below 0 or above 2^64 - 1",
+        12 => "zero divisor",
+        23 => "unknown datum type",
+        24 => "the value's kind does not suit the datum type",
+        25 => "the number is too large for the datum type",
+        26 => "the buffer is shorter than the field",
         _ => "unknown refusal",
     }
 }
@@ -26,4 +36,17 @@ pub fn code(code: u8) -> &'static str {
         12 | 13 => "choice",
         _ => "operator",
     }
+}
+
+/// The datum code of a type.
+pub fn datum(name: &[u8]) -> Option<u8> {
+    Some(match name {
+        b"VOID*" => 0,
+        b"BOOLEAN" => 1,
+        b"UINT8" => 2,
+        b"UINT16" => 3,
+        b"UINT32" => 4,
+        b"UINT64" => 5,
+        _ => return None,
+    })
 }

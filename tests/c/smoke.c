@@ -15,8 +15,77 @@ static void check(const char *what, int good)
     }
 }
 
+/* What stands in lent memory before a call. */
+#define UNTOUCHED 0xA5
+
+static uint8_t evaluate(const char *text, const uint8_t *table, size_t table_len, uint64_t out[6])
+{
+    memset(out, UNTOUCHED, 6 * sizeof out[0]);
+    return korzhinay_evaluate((const uint8_t *)text, strlen(text), table, table_len, out);
+}
+
+static int answers(const uint64_t out[6], uint64_t kind, uint64_t number, uint64_t count, uint64_t memory, uint64_t start,
+                   uint64_t length)
+{
+    return out[0] == kind && out[1] == number && out[2] == count && out[3] == memory && out[4] == start && out[5] == length;
+}
+
+static void check_evaluation(const uint8_t *table, size_t table_len)
+{
+    uint64_t out[6];
+
+    check("an expression", evaluate("1 + 2 * $(WEEK)", table, table_len, out) == 0);
+    check("its value and count", answers(out, KORZHINAY_KIND_NUMBER, 97, 2, 0, 0, 0));
+    check("a string", evaluate("1 ? 'ab' : 'c'", NULL, 0, out) == 0);
+    check("its place", answers(out, KORZHINAY_KIND_STRING, 0, 1, KORZHINAY_IN_EXPRESSION, 5, 2));
+    check("a wide string of the table", evaluate("$(NAME)", table, table_len, out) == 0);
+    check("its place in the table", answers(out, KORZHINAY_KIND_WIDE, 0, 0, KORZHINAY_IN_TABLE, 72, 2));
+    check("a zero divisor", evaluate("1 / 0", table, table_len, out) == 12);
+    check("and six zeros", answers(out, 0, 0, 0, 0, 0, 0));
+    check("a table cut short", evaluate("1", table, table_len - 1, out) == 1);
+    check("and six zeros again", answers(out, 0, 0, 0, 0, 0, 0));
+    check("nothing at all", korzhinay_evaluate(NULL, 0, NULL, 0, out) == 7);
+}
+
+static uint8_t field(uint8_t buffer[8], size_t room, const char *text, const uint8_t *table, size_t table_len, uint8_t datum,
+                     uint64_t *length)
+{
+    memset(buffer, UNTOUCHED, 8);
+    memset(length, UNTOUCHED, sizeof *length);
+    return korzhinay_field(buffer, room, (const uint8_t *)text, strlen(text), table, table_len, datum, length);
+}
+
+static int holds(const uint8_t buffer[8], const char *bytes, size_t count)
+{
+    for (size_t i = 0; i < 8; i++)
+        if (buffer[i] != (i < count ? (uint8_t)bytes[i] : UNTOUCHED))
+            return 0;
+    return 1;
+}
+
+static void check_field(const uint8_t *table, size_t table_len)
+{
+    uint8_t buffer[8];
+    uint64_t length;
+
+    check("a number", field(buffer, 8, "$(WEEK) << 8", table, table_len, KORZHINAY_DATUM_UINT16, &length) == 0);
+    check("its two bytes, and no more", length == 2 && holds(buffer, "\0\x30", 2));
+    check("a string", field(buffer, 3, "'ab'", NULL, 0, KORZHINAY_DATUM_VOID, &length) == 0);
+    check("its bytes and a zero", length == 3 && holds(buffer, "ab", 3));
+    check("a wide string", field(buffer, 8, "$(NAME)", table, table_len, KORZHINAY_DATUM_VOID, &length) == 0);
+    check("two bytes each", length == 6 && holds(buffer, "x\0y\0\0", 6));
+    check("a string too long", field(buffer, 2, "'ab'", NULL, 0, KORZHINAY_DATUM_VOID, &length) == 26);
+    check("leaves the buffer", length == 0 && holds(buffer, "", 0));
+    check("a number too large", field(buffer, 8, "2", NULL, 0, KORZHINAY_DATUM_BOOLEAN, &length) == 25);
+    check("a number for VOID*", field(buffer, 8, "2", NULL, 0, KORZHINAY_DATUM_VOID, &length) == 24);
+    check("an unknown datum", field(buffer, 8, "2", NULL, 0, 6, &length) == 23);
+    check("a missing PCD first", field(buffer, 8, "g.Pcd", table, table_len, 6, &length) == 9);
+    check("no buffer", korzhinay_field(NULL, 0, (const uint8_t *)"1", 1, NULL, 0, KORZHINAY_DATUM_UINT8, &length) == 26);
+}
+
 int main(void)
 {
+    uint8_t settings[256] = "NAME";
     uint8_t table[128] = "WEEK";
     uint64_t found[3], out[2], values[200];
     uint8_t codes[200];
@@ -44,6 +113,15 @@ int main(void)
     check("the last one's place and value", starts[2] == 11 && lens[2] == 1 && values[2] == 5);
     korzhinay_tokens(NULL, 0, out, codes, starts, lens, values);
     check("an empty expression", out[0] == 0 && out[1] == 0);
+
+    settings[64] = KORZHINAY_KIND_WIDE;
+    settings[65] = 2;
+    memcpy(settings + 72, "xy", 2);
+    memcpy(settings + 128, "WEEK", 4);
+    settings[128 + 65] = 8;
+    settings[128 + 72] = 48;
+    check_evaluation(settings, sizeof settings);
+    check_field(settings, sizeof settings);
 
     printf("%d passed, %d failed\n", passed, failed);
     return failed != 0;

@@ -6,6 +6,8 @@ ROOT = os.path.dirname(os.path.dirname(os.path.dirname(os.path.abspath(__file__)
 LIB = ctypes.CDLL(os.path.join(ROOT, "target", "libkorzhinay.so"))
 LIB.korzhinay_table.restype = ctypes.c_uint8
 LIB.korzhinay_lookup.restype = ctypes.c_uint8
+LIB.korzhinay_evaluate.restype = ctypes.c_uint8
+LIB.korzhinay_field.restype = ctypes.c_uint8
 SIZE = ctypes.c_size_t
 
 # What stands in a lent array before a call: entries that a call must not write have to keep it.
@@ -36,3 +38,31 @@ def tokens(expression):
         if (codes[i], starts[i], lens[i], values[i]) != (CODE, START, LENGTH, VALUE):
             raise AssertionError("entry %d was written, of %d" % (i, count))
     return number, [(codes[i], starts[i], lens[i], values[i]) for i in range(count)]
+
+
+def evaluate(expression, table):
+    """The refusal number (0: none) and the six numbers of the answer; those after them must stay."""
+    out = (ctypes.c_uint64 * 8)(*[VALUE] * 8)
+    refusal = LIB.korzhinay_evaluate(expression, SIZE(len(expression)), table, SIZE(len(table)), out)
+    if tuple(out[6:]) != (VALUE, VALUE):
+        raise AssertionError("a seventh number was written")
+    return refusal, tuple(out[:6])
+
+
+def untouched(length):
+    """What stands in a field's buffer before the call: no byte is that of its neighbours, or zero."""
+    return bytes(1 + 7 * i % 251 for i in range(length))
+
+
+def field(expression, table, datum, room):
+    """The refusal number (0: none), the length of the field and every byte of the buffer; those after it must stay."""
+    before = untouched(room + 16)
+    buffer = (ctypes.c_uint8 * (room + 16))(*before)
+    length = ctypes.c_uint64(VALUE)
+    refusal = LIB.korzhinay_field(
+        buffer, SIZE(room), expression, SIZE(len(expression)), table, SIZE(len(table)), ctypes.c_uint8(datum), ctypes.byref(length)
+    )
+    after = bytes(buffer)
+    if after[room:] != before[room:]:
+        raise AssertionError("bytes past the buffer were written")
+    return refusal, length.value, after[:room]

@@ -1,6 +1,8 @@
 """Runs the vectors against the shared library. The last line says how many passed and how many failed."""
 import sys
 
+import evaluation
+import field
 import library
 import tables
 import tokens
@@ -28,6 +30,16 @@ for number, (table, name, found) in enumerate(tables.LOOKUPS):
 for number, (table, good) in enumerate(tables.TABLES):
     if not good:
         check("lookup in malformed table %d" % number, library.lookup(table, b"A"), (1, (library.VALUE,) * 3))
+for expression, table, wanted in evaluation.VECTORS:
+    check("value of %r" % expression, library.evaluate(expression, table), wanted)
+for expression, table, datum, room, wanted in field.VECTORS:
+    what = "field of %r, datum %d, %d bytes of room" % (expression, datum, room)
+    before = library.untouched(room)
+    if isinstance(wanted, int):
+        answer = (wanted, 0, before)
+    else:
+        answer = (0, len(wanted), wanted + before[len(wanted):])
+    check(what, library.field(expression, table, datum, room), answer)
 
 print("%d passed, %d failed" % (passed, failed))
 sys.exit(1 if failed else 0)

@@ -7,7 +7,7 @@ use borrow.Author.Tests.{le-ltb, le-leb, lt-leb, ne-eqb}
 use lib.ListN.{length}
 use Rattle.units.specs.Refusals.{BUFFER-SHORT, refusal}
 use Rattle.token.specs.Tokens.{stored}
-use Rattle.datum.specs.Encoding.{VOID, UINT64, Encoding, bytes, unfit, widthOf, limitOf, littleEndian, numberField, fitted, Writes}
+use Rattle.datum.specs.Encoding.{VOID, UINT64, Encoding, bytes, unfit, widthOf, limitOf, lowestBytes, numberField, fitted, Writes}
 use Rattle.datum.specs.declared.Written.{Written}
 use Rattle.datum.specs.declared.Written.the-variants.{Length, Refused}
 
@@ -25,5 +25,5 @@ module _ {f : Encoding} (b : List ℕ) where
   stores e l h s = rw (e, le-leb _ _ l, h) (record { answer = refl; buffer = s })
 
 -- a number that is at most the largest
-pub number-fits : (d x : ℕ) {m : ℕ} → d ≤ UINT64 → (d ≡ VOID → ⊥) → m + 1 ≡ limitOf d → x ≤ m → numberField d x ≡ bytes (littleEndian (widthOf d) x)
+pub number-fits : (d x : ℕ) {m : ℕ} → d ≤ UINT64 → (d ≡ VOID → ⊥) → m + 1 ≡ limitOf d → x ≤ m → numberField d x ≡ bytes (lowestBytes (widthOf d) x)
 number-fits d x k v h l = rw (le-ltb _ _ k, ne-eqb _ _ v, lt-leb (limitOf d) x (omega arith))

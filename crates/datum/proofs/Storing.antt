@@ -8,7 +8,7 @@ use mathlib.Core.List.{List, [], _∷_, _++_}
 use lib.ListN.{length, getD, set, drop, length-append, drop-of-length-le}
 use lib.Seq.{sets, length-sets, drop-cons}
 use Rattle.token.specs.Tokens.{stored}
-use Rattle.datum.specs.Encoding.{littleEndian, terminated, widened}
+use Rattle.datum.specs.Encoding.{lowestBytes, terminated, widened}
 
 -- the list l, once l₀, into which `rest` is left to store from i on, and nothing else of `whole`
 pub record Storing (whole rest l₀ l : List ℕ) (i : ℕ) : Type 0 where
@@ -36,16 +36,16 @@ module _ {whole left l₀ l l′ : List ℕ} {i : ℕ} (vs : List ℕ) (e : l′
   ended h = e ∙ sym (u .so ∙ rw h)
 
 -- the byte of a number that is stored next
-pub low-next : (n i x : ℕ) → i < n → littleEndian (n - i) x ≡ x % 256 ∷ littleEndian (n - (i + 1)) (x / 256)
-unfolding littleEndian
+pub low-next : (n i x : ℕ) → i < n → lowestBytes (n - i) x ≡ x % 256 ∷ lowestBytes (n - (i + 1)) (x / 256)
+unfolding lowestBytes
 low-next n i x h = let e : n - i ≡ suc (n - (i + 1)) = omega arith in rw e
 
-pub low-none : (n i x : ℕ) → n ≤ i → littleEndian (n - i) x ≡ []
-unfolding littleEndian
+pub low-none : (n i x : ℕ) → n ≤ i → lowestBytes (n - i) x ≡ []
+unfolding lowestBytes
 low-none n i x h = rw (sub-eq-zero-of-le h)
 
-pub low-length : (n x : ℕ) → length (littleEndian n x) ≡ n
-unfolding littleEndian
+pub low-length : (n x : ℕ) → length (lowestBytes n x) ≡ n
+unfolding lowestBytes
 low-length zero x = refl
 low-length (suc n) x = ap suc (low-length n (x / 256))
 

@@ -34,7 +34,7 @@ pub data Encoding : Type 0 where
   bytes : List ℕ → Encoding
   unfit : ℕ → Encoding
 
--- how many bytes a number takes
+-- how many bytes a number takes (asked only of a datum that takes numbers)
 unfoldable pub widthOf : ℕ → ℕ
 widthOf d = pick (eqb d UINT16) 2 (pick (eqb d UINT32) 4 (pick (eqb d UINT64) 8 1))
 
@@ -43,9 +43,9 @@ unfoldable pub limitOf : ℕ → ℕ
 limitOf d = pick (eqb d BOOLEAN) 2 (256 ^ widthOf d)
 
 -- n bytes of a number, the lowest first
-unfoldable pub littleEndian : (n : ℕ) → ℕ → List ℕ
-littleEndian zero x = []
-littleEndian (suc n) x = x % 256 ∷ littleEndian n (x / 256)
+unfoldable pub lowestBytes : (n : ℕ) → ℕ → List ℕ
+lowestBytes zero x = []
+lowestBytes (suc n) x = x % 256 ∷ lowestBytes n (x / 256)
 
 -- a string and a zero byte
 abbrev pub terminated : List ℕ → List ℕ
@@ -62,7 +62,7 @@ numberField d x =
     pick (ltb UINT64 d) (unfit DATUM-UNKNOWN)
     (pick (eqb d VOID) (unfit DATUM-KIND)
     (pick (leb (limitOf d) x) (unfit DATUM-RANGE)
-    (bytes (littleEndian (widthOf d) x))))
+    (bytes (lowestBytes (widthOf d) x))))
 
 abbrev pub stringField : (datum : ℕ) → List ℕ → Encoding
 stringField d s = pick (ltb UINT64 d) (unfit DATUM-UNKNOWN) (pick (eqb d VOID) (bytes s) (unfit DATUM-KIND))

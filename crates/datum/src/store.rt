@@ -5,12 +5,12 @@ ghost use Prim.Native.Nat.{_+_, _*_, _≤_, _<_};
 ghost use lib.ListN.{length};
 ghost use lib.Seq.{sets};
 ghost use Rattle.token.specs.Tokens.{stored};
-ghost use Rattle.datum.specs.Encoding.{littleEndian, terminated, widened};
+ghost use Rattle.datum.specs.Encoding.{lowestBytes, terminated, widened};
 
 // The lowest `n` bytes of a number, the lowest first.
 pub fn put_number(buffer: &mut [u8], n: usize, x: u64)
     requires { ⌜ n ≤ length (now buffer) ⌝ }
-    ensures { λ r. ⌜ now (buffer .exit) ≡ stored (littleEndian n x) (now (buffer .entry)) ⌝ }
+    ensures { λ r. ⌜ now (buffer .exit) ≡ stored (lowestBytes n x) (now (buffer .entry)) ⌝ }
 {
     let mut rest = x;
     let mut i = 0;

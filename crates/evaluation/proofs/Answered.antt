@@ -28,10 +28,11 @@ use Rattle.value.specs.Values.{Value, number, string, wide, fault, kindOf}
 use Rattle.value.specs.Attributes.{Attributes}
 use Rattle.value.specs.declared.Kind.{Kind}
 use Rattle.value.specs.declared.Kind.the-variants.{Clash}
-use Rattle.value.proofs.Settled.{Late, Suits, Settles, primary-settles, unary-settles, binary-settles, choice-settles}
+use Rattle.value.specs.Settled.{Late, Suits, Settles}
+use Rattle.value.proofs.Settled.{primary-settles, unary-settles, binary-settles, choice-settles}
 use Rattle.expression.specs.Meaning.{codeOf, meaning}
 use Rattle.expression.proofs.Ready.{counts}
-use Rattle.evaluation.specs.Evaluation.{Evaluation, value, refused, refusedWith, finished, clashes, judged, END-TOKEN, tokenIn, concluded, ofTokens, ended, inSoundTable, evaluation}
+use Rattle.evaluation.specs.Evaluation.{Evaluation, refusalNumber, value, refused, refusedWith, finished, clashes, judged, END-TOKEN, tokenIn, concluded, ofTokens, ended, inSoundTable, evaluation}
 use Rattle.evaluation.specs.Answers.{Unread, Exact, Counted}
 
 -- every tree is settled, from its leaves up
@@ -43,16 +44,11 @@ settles e t (Binary o l r) = binary-settles (o .code) (fold (meaning e t) l) (fo
 settles e t (Choice q c a b) =
     choice-settles (fold (meaning e t) c) (fold (meaning e t) a) (fold (meaning e t) b) (settles e t c) (settles e t a) (settles e t b)
 
--- the number of a refusal, 0 of a value
-abbrev numberOf : Evaluation → ℕ
-numberOf (value v n) = 0
-numberOf (refused r) = r .number
-
 late-not-7 : (n : ℕ) → Late n → n ≡ NO-DERIVATION → ⊥
 late-not-7 n (inl h) e = omega arith
 late-not-7 n (inr h) e = omega arith
 
-finished-not-7 : (k : Kind) (v : Value) (n : ℕ) → Suits k v → numberOf (finished v n) ≡ NO-DERIVATION → ⊥
+finished-not-7 : (k : Kind) (v : Value) (n : ℕ) → Suits k v → refusalNumber (finished v n) ≡ NO-DERIVATION → ⊥
 finished-not-7 k (number x) n h e = omega arith
 finished-not-7 k (string p s) n h e = omega arith
 finished-not-7 k (wide p s) n h e = omega arith
@@ -62,11 +58,11 @@ finished-not-7 k (fault r) n h e = late-not-7 r h e
 alive : (k : Kind) → clashes k ≡ false → k ≡ Clash → ⊥
 alive k h e = let z = ap clashes e in let y : true ≡ false = sym z ∙ h in false≢true (sym y)
 
-judged-not-7 : (bar : Bool) (a : Attributes) → Settles a → numberOf (judged bar a) ≡ NO-DERIVATION → ⊥
+judged-not-7 : (bar : Bool) (a : Attributes) → Settles a → refusalNumber (judged bar a) ≡ NO-DERIVATION → ⊥
 judged-not-7 bar a h =
-    pick-case (λ (x : Evaluation). numberOf x ≡ NO-DERIVATION → ⊥) bar (λ _ e. omega arith)
-    (λ _. pick-case (λ (x : Evaluation). numberOf x ≡ NO-DERIVATION → ⊥) (a .missing) (λ _ e. omega arith)
-    (λ _. pick-case (λ (x : Evaluation). numberOf x ≡ NO-DERIVATION → ⊥) (clashes (a .kind)) (λ _ e. omega arith)
+    pick-case (λ (x : Evaluation). refusalNumber x ≡ NO-DERIVATION → ⊥) bar (λ _ e. omega arith)
+    (λ _. pick-case (λ (x : Evaluation). refusalNumber x ≡ NO-DERIVATION → ⊥) (a .missing) (λ _ e. omega arith)
+    (λ _. pick-case (λ (x : Evaluation). refusalNumber x ≡ NO-DERIVATION → ⊥) (clashes (a .kind)) (λ _ e. omega arith)
     (λ c. finished-not-7 (a .kind) (a .value) (a .count) (h (alive (a .kind) c)))))
 
 -- what a value tells of the attributes that gave it
@@ -109,17 +105,18 @@ module _ (e t : List ℕ) where
         by-tokens ∙ rw (evaluates tokens-read (meaning e t) .accepted-exactly (fold (meaning e t) s) .1 (s, d, refl), bars-seen codeOf d)
 
     none : evaluation e t ≡ refusedWith NO-DERIVATION → (s : Tree Token) → Derives codeOf expression (reading e .tokens) s → ⊥
-    none h s d = judged-not-7 (bare codeOf d) (fold (meaning e t) s) (settles e t s) (ap numberOf (sym (derived s d) ∙ h))
+    none h s d = judged-not-7 (bare codeOf d) (fold (meaning e t) s) (settles e t s) (ap refusalNumber (sym (derived s d) ∙ h))
 
     refused-7 : ((s : Tree Token) → Derives codeOf expression (reading e .tokens) s → ⊥) → evaluation e t ≡ refusedWith NO-DERIVATION
     unfolding ofTokens
     refused-7 h = by-tokens ∙ rw (evaluates tokens-read (meaning e t) .refused-exactly .1 h .1)
 
-    pub exact : Exact e t
+    pub exact : Exact e t sound complete
     exact =
         record {
           underived = (none, refused-7);
           derived = derived;
+          settles = settles e t;
           settled = λ s d v n h. judged-tells v n (bare codeOf d) (fold (meaning e t) s) (settles e t s) (sym (derived s d) ∙ h) .0;
         }
 

@@ -15,6 +15,7 @@ use Rattle.grammar.specs.Grammar.{Tree, expression, Derives}
 use Rattle.grammar.specs.Fold.{fold}
 use Rattle.grammar.specs.Bars.{bare}
 use Rattle.value.specs.Values.{Value, kindOf}
+use Rattle.value.specs.Settled.{Settles}
 use Rattle.expression.specs.Meaning.{codeOf, meaning}
 use Rattle.evaluation.specs.Evaluation.{value, refused, refusedWith, judged, evaluation}
 
@@ -23,14 +24,16 @@ pub record Unread (e t : List ℕ) : Type 0 where
   pub malformed : wellFormed t ≡ false → evaluation e t ≡ refusedWith TABLE-MALFORMED
   pub unread : wellFormed t ≡ true → (r : Refusal) → reading e .ending ≡ Refused r → evaluation e t ≡ refused r
 
--- over a well-formed table, where reading met no refusal
-pub record Exact (e t : List ℕ) : Type 0 where
-  -- 7 exactly if no derivation of the whole list of tokens exists (demand 2)
+-- over a well-formed table, where reading met none of 2 to 6
+pub record Exact (e t : List ℕ) (sound : wellFormed t ≡ true) (complete : reading e .ending ≡ Complete) : Type 0 where
+  -- 7 is given just where no tree derives from all the tokens (demand 2)
   pub underived : (evaluation e t ≡ refusedWith NO-DERIVATION) ↔ ((s : Tree Token) → Derives codeOf expression (reading e .tokens) s → ⊥)
   -- else what the tree folds to decides, and whether the derivation has a bar outside parentheses
   pub derived : (s : Tree Token) (d : Derives codeOf expression (reading e .tokens) s)
       → evaluation e t ≡ judged (bare codeOf d) (fold (meaning e t) s)
-  -- a value is of the kind that was settled for the tree, whatever was skipped
+  -- where its kinds suit, a tree has a value of the settled kind, or evaluation met 11 or 12
+  pub settles : (s : Tree Token) → Settles (fold (meaning e t) s)
+  -- so a value that is answered is of the kind that was settled for the tree, whatever was skipped
   pub settled : (s : Tree Token) → Derives codeOf expression (reading e .tokens) s
       → (v : Value) (n : ℕ) → evaluation e t ≡ value v n → kindOf v ≡ fold (meaning e t) s .kind
 

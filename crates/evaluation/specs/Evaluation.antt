@@ -1,5 +1,6 @@
 -- The answer to an expression (document 01, "Kinds and values" and "Refusal numbers"): its value and how many operators were applied,
--- or a refusal. Refusals are asked in this order: 1; 2; 3, 4 and 5 as they are met; 6; 7; 8; 9; 10; 11 and 12 as evaluation meets them.
+-- or a refusal. The order of refusals: 1; 2; 3, 4 and 5 as reading meets them; 6; 7; 8; 9; 10; and last what evaluation itself meets, 11
+-- or 12. The definition computes, so it goes through the parser; Answers.antt says what it amounts to in terms of derivations alone.
 use Prim.Native.Nat.{ℕ}
 use mathlib.Core.Bool.{Bool}
 use mathlib.Core.List.{List, []}
@@ -14,19 +15,20 @@ use Rattle.token.specs.declared.scan.Ending.{Ending}
 use Rattle.token.specs.declared.scan.Ending.the-variants.{Complete, Refused}
 use Rattle.grammar.specs.Parse.{END, Outcome, refused as underived, accepted, parse}
 use Rattle.value.specs.Kinds.{kindNumber}
-use Rattle.value.specs.Values.{Value, number, string, wide, fault}
+use Rattle.value.specs.Values.{Value, number, string, wide, fault, kindOf, inExpression}
 use Rattle.value.specs.Attributes.{Attributes}
 use Rattle.value.specs.Places.{bytesAt}
+use Rattle.value.specs.declared.Place.{Place}
 use Rattle.value.specs.declared.Kind.{Kind}
 use Rattle.value.specs.declared.Kind.the-variants.{Clash}
 use Rattle.expression.specs.Meaning.{codeOf, meaning}
 use Rattle.grammar.specs.Bars.{barOutside}
-use Rattle.evaluation.specs.declared.Value.{Value as Held}
+use Rattle.evaluation.specs.declared.Value.{Value as Shown}
 use Rattle.evaluation.specs.declared.Value.the-variants.{Number, String, Wide}
 use Rattle.evaluation.specs.declared.Answer.{Answer}
 use Rattle.evaluation.specs.declared.Answer.the-variants.{Value as Given, Refused as Refusing}
 
--- a value with its count of applied operators, or a refusal with its number and line
+-- a value, which is never a fault, with its count of applied operators, or a refusal with its number and line
 pub data Evaluation : Type 0 where
   value : Value → (count : ℕ) → Evaluation
   refused : Refusal → Evaluation
@@ -35,7 +37,7 @@ pub data Evaluation : Type 0 where
 abbrev pub refusedWith : ℕ → Evaluation
 refusedWith n = refused (refusal n)
 
--- the value, or the refusal 11 or 12 that evaluation met first
+-- the value, or the refusal that evaluation met first: where kinds suit that is 11 or 12
 abbrev pub finished : Value → (count : ℕ) → Evaluation
 finished (number x) n = value (number x) n
 finished (string p s) n = value (string p s) n
@@ -82,17 +84,51 @@ inSoundTable e t = let given = ofTokens e t (reading e .tokens) in ended (readin
 unfoldable pub evaluation : (e t : List ℕ) → Evaluation
 evaluation e t = let given = inSoundTable e t in pick (wellFormed t) given (refusedWith TABLE-MALFORMED)
 
--- what the code's answer says: a string's place becomes the place and the bytes that stand there
-abbrev pub held : (e t : List ℕ) → Held → Value
-held e t (Number x) = number x
-held e t (String p) = string p (bytesAt e t p)
-held e t (Wide p) = wide p (bytesAt e t p)
+-- what the code's answer says: with a string's place go the bytes that stand there
+abbrev pub valueSaid : (e t : List ℕ) → Shown → Value
+valueSaid e t (Number x) = number x
+valueSaid e t (String p) = string p (bytesAt e t p)
+valueSaid e t (Wide p) = wide p (bytesAt e t p)
 
 abbrev pub stated : (e t : List ℕ) → Answer → Evaluation
-stated e t (Given v n) = value (held e t v) n
+stated e t (Given v n) = value (valueSaid e t v) n
 stated e t (Refusing r) = refused r
 
--- the bytes of a string, none of a number or a refusal
+-- What document 01 says of each case. A refusal has its number and its line, no value and a count of 0; a value has no refusal number,
+-- which 0 stands for, and no line. Kinds are numbered as the table numbers them.
+abbrev pub refusalNumber : Evaluation → ℕ
+refusalNumber (value v n) = 0
+refusalNumber (refused r) = r .number
+
+abbrev pub lineOf : Evaluation → ℕ
+lineOf (value v n) = 0
+lineOf (refused r) = r .line .0
+
+abbrev pub countOf : Evaluation → ℕ
+countOf (value v n) = n
+countOf (refused r) = 0
+
+abbrev pub kindNumberOf : Evaluation → ℕ
+kindNumberOf (value v n) = kindNumber (kindOf v)
+kindNumberOf (refused r) = 0
+
+-- the number, 0 of a string
+abbrev pub numberOf : Evaluation → ℕ
+numberOf (value (number x) n) = x
+numberOf (value (string p s) n) = 0
+numberOf (value (wide p s) n) = 0
+numberOf (value (fault r) n) = 0
+numberOf (refused r) = 0
+
+-- where a string stands; an empty part of a number and of a refusal
+abbrev pub placeOf : Evaluation → Place
+placeOf (value (number x) n) = inExpression 0 0
+placeOf (value (string p s) n) = p
+placeOf (value (wide p s) n) = p
+placeOf (value (fault r) n) = inExpression 0 0
+placeOf (refused r) = inExpression 0 0
+
+-- a string's bytes, none of a number and of a refusal
 abbrev pub textOf : Evaluation → List ℕ
 textOf (value (number x) n) = []
 textOf (value (string p s) n) = s

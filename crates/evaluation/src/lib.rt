@@ -1,5 +1,5 @@
 // The answer to an expression: its value and how many operators were applied, or a refusal.
-pub mod bars;
+mod bars;
 pub mod outcome;
 
 use units::Refusal;

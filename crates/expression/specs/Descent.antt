@@ -1,4 +1,4 @@
--- The recursive descent over the scanner's arrays, as contracts of private functions have it. No public promise cites this.
+-- The recursive descent over the scanner's arrays, as contracts between layers have it. No promise about an expression cites this.
 use Prim.Native.Nat.{ℕ, _≤_}
 use mathlib.Core.Path.{_≡_}
 use mathlib.Core.Bool.{true}

@@ -1,4 +1,5 @@
--- The data field that an expression's value makes (document 01, "Field bytes"): the expression's own refusals first, then 23 to 26.
+-- The data field that an expression's value makes (document 01, "Field bytes"). The expression's own refusals come before those of the
+-- datum and the buffer. The answer is a length; the count of operators is no part of it.
 use Prim.Native.Nat.{ℕ}
 use mathlib.Core.List.{List}
 use Rattle.value.specs.Values.{Value, number, string, wide, fault}

@@ -8,8 +8,8 @@ ghost use mathlib.Core.List.{List, [], _∷_};
 ghost use Prim.Native.Nat.{ℕ};
 ghost use Rattle.text.specs.Bytes.{pick};
 ghost use Rattle.token.specs.Tokens.{stored};
-ghost use Rattle.evaluation.specs.Evaluation.{held};
-ghost use Rattle.korzhinay.specs.Expressions.{stringShown, valueShown, Answers};
+ghost use Rattle.evaluation.specs.Evaluation.{value as valued, valueSaid};
+ghost use Rattle.korzhinay.specs.Expressions.{answerShown, Answers};
 
 // A flag as a number.
 fn one_if(flag: bool) -> u64
@@ -32,7 +32,7 @@ fn show_number(out: &mut [u64; 6], x: u64, count: u64)
 
 // Stores where a string stands.
 fn show_string(out: &mut [u64; 6], kind: u64, place: Place, count: u64)
-    ensures { λ r. ⌜ now (out .exit) ≡ stored (stringShown kind place count) (now (out .entry)) ⌝ }
+    ensures { λ r. ⌜ now (out .exit) ≡ stored (kind ∷ 0 ∷ count ∷ pick (place .tabled) 1 0 ∷ place .start .0 ∷ place .len ∷ []) (now (out .entry)) ⌝ }
 {
     let from = place.start;
     let tabled = one_if(place.tabled);
@@ -46,7 +46,7 @@ fn show_string(out: &mut [u64; 6], kind: u64, place: Place, count: u64)
 
 // Stores a value.
 fn show_value(out: &mut [u64; 6], v: Value, count: usize)
-    ensures { λ r. ⌜ ((e t : List ℕ) → now (out .exit) ≡ stored (valueShown (held e t v) count) (now (out .entry))) ⌝ }
+    ensures { λ r. ⌜ ((e t : List ℕ) → now (out .exit) ≡ stored (answerShown (valued (valueSaid e t v) count)) (now (out .entry))) ⌝ }
 {
     let n = count as u64;
     match v {

@@ -2,3 +2,4 @@ pub mod Kinds
 pub mod Values
 pub mod Attributes
 pub mod Places
+pub mod Settled

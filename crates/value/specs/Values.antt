@@ -4,7 +4,7 @@ use Prim.Native.Nat.{ℕ, _+_, _-_}
 use mathlib.Core.Bool.{Bool, true, false, not, _&&_, _||_}
 use mathlib.Core.List.{List}
 use lib.ListN.{take, drop}
-use lib.Dec.{eqb, leb}
+use lib.Dec.{eqb}
 use Rattle.units.specs.Refusals.{KINDS-UNSUITED}
 use Rattle.text.specs.Bytes.{pick}
 use Rattle.text.specs.Order.{compared}
@@ -12,7 +12,7 @@ use Rattle.text.specs.declared.order.Order.{Order}
 use Rattle.settings.specs.Setting.{under}
 use Rattle.settings.specs.declared.Setting.{Setting}
 use Rattle.settings.specs.declared.Setting.the-variants.{Number as Holds, String as HoldsString, Wide as HoldsWide, Missing}
-use Rattle.lexeme.specs.Codes.{NUMBER, TRUTH, STRING, WIDE, MACRO, PCD, AND, OR-BARS, OR}
+use Rattle.lexeme.specs.Codes.{STRING, WIDE, MACRO, PCD, AND, OR-BARS, OR}
 use Rattle.token.specs.Tokens.{Token}
 use Rattle.arithmetic.specs.Operators.{truth, unaryOf, binaryOf, comparison, numbers}
 use Rattle.arithmetic.specs.declared.Outcome.{Outcome}
@@ -29,6 +29,7 @@ pub data Value : Type 0 where
   wide : Place → List ℕ → Value
   fault : ℕ → Value
 
+-- a value's kind (a primary has no fault, and what is settled of an operator's fault is not asked here)
 abbrev pub kindOf : Value → Kind
 kindOf (number x) = Number
 kindOf (string p s) = String
@@ -88,23 +89,23 @@ skips o (string p s) = false
 skips o (wide p s) = false
 skips o (fault n) = false
 
--- two values in order, as a comparison has it; the number 1 or 0
-abbrev pub judged : ℕ → Order → Value
-judged o r = number (truth (comparison o r))
+-- how two values stand to each other, as a comparison judges it: the number 1 or 0
+abbrev pub comparisonValue : ℕ → Order → Value
+comparisonValue o r = number (truth (comparison o r))
 
--- both operands' values are there; the left one first
+-- both operands are evaluated, the left one first: the first fault is the answer
 unfoldable pub bothValues : ℕ → Value → Value → Value
-bothValues o (number x) (number y) = pick (compares o) (judged o (numbers x y)) (resultOf (binaryOf o x y))
+bothValues o (number x) (number y) = pick (compares o) (comparisonValue o (numbers x y)) (resultOf (binaryOf o x y))
 bothValues o (number x) (string q t) = fault KINDS-UNSUITED
 bothValues o (number x) (wide q t) = fault KINDS-UNSUITED
 bothValues o (number x) (fault n) = fault n
 bothValues o (string p s) (number y) = fault KINDS-UNSUITED
-bothValues o (string p s) (string q t) = pick (compares o) (judged o (compared s t)) (fault KINDS-UNSUITED)
+bothValues o (string p s) (string q t) = pick (compares o) (comparisonValue o (compared s t)) (fault KINDS-UNSUITED)
 bothValues o (string p s) (wide q t) = fault KINDS-UNSUITED
 bothValues o (string p s) (fault n) = fault n
 bothValues o (wide p s) (number y) = fault KINDS-UNSUITED
 bothValues o (wide p s) (string q t) = fault KINDS-UNSUITED
-bothValues o (wide p s) (wide q t) = pick (compares o) (judged o (compared s t)) (fault KINDS-UNSUITED)
+bothValues o (wide p s) (wide q t) = pick (compares o) (comparisonValue o (compared s t)) (fault KINDS-UNSUITED)
 bothValues o (wide p s) (fault n) = fault n
 bothValues o (fault n) w = fault n
 

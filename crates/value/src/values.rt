@@ -20,7 +20,7 @@ ghost use Rattle.text.specs.Order.{compared};
 ghost use Rattle.lexeme.specs.Codes.{AND, OR-BARS, OR};
 ghost use Rattle.arithmetic.specs.Operators.{binaryOf, numbers};
 ghost use Rattle.value.specs.Kinds.{compares as comparesOf};
-ghost use Rattle.value.specs.Values.{fault, settingIn, isMissing as missingOf, resultOf, unaryValue, skips as skipsOf, judged, bothValues, binaryValue, choiceValue};
+ghost use Rattle.value.specs.Values.{fault, settingIn, isMissing as missingOf, resultOf, unaryValue, skips as skipsOf, comparisonValue, bothValues, binaryValue, choiceValue};
 ghost use Rattle.value.specs.Places.{bytesAt, meant};
 
 // The bytes at a place.
@@ -116,13 +116,13 @@ pub fn skips(o: u8, v: Held) -> bool
 }
 
 fn judge(o: u8, r: Order) -> Held
-    ensures { λ v. ⌜ ((e t : List ℕ) → meant e t v ≡ judged o r) ⌝ }
+    ensures { λ v. ⌜ ((e t : List ℕ) → meant e t v ≡ comparisonValue o r) ⌝ }
 {
     Held::Number(arithmetic::truth(arithmetic::holds(o, r)))
 }
 
 fn both_numbers(o: u8, x: u64, y: u64) -> Held
-    ensures { λ v. ⌜ ((e t : List ℕ) → meant e t v ≡ pick (comparesOf o) (judged o (numbers x y)) (resultOf (binaryOf o x y))) ⌝ }
+    ensures { λ v. ⌜ ((e t : List ℕ) → meant e t v ≡ pick (comparesOf o) (comparisonValue o (numbers x y)) (resultOf (binaryOf o x y))) ⌝ }
 {
     if kinds::compares(o) {
         return judge(o, arithmetic::compare(x, y));
@@ -131,7 +131,7 @@ fn both_numbers(o: u8, x: u64, y: u64) -> Held
 }
 
 fn both_strings<'a>(expr: &'a [u8], table: &'a [u8], o: u8, p: Place, q: Place) -> Held
-    ensures { λ v. ⌜ meant (now (expr .entry)) (now (table .entry)) v ≡ pick (comparesOf o) (judged o (compared (bytesAt (now (expr .entry)) (now (table .entry)) p) (bytesAt (now (expr .entry)) (now (table .entry)) q))) (fault KINDS-UNSUITED) ⌝ }
+    ensures { λ v. ⌜ meant (now (expr .entry)) (now (table .entry)) v ≡ pick (comparesOf o) (comparisonValue o (compared (bytesAt (now (expr .entry)) (now (table .entry)) p) (bytesAt (now (expr .entry)) (now (table .entry)) q))) (fault KINDS-UNSUITED) ⌝ }
 {
     if !kinds::compares(o) {
         return Held::Fault(units::KINDS_UNSUITED);

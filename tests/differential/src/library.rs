@@ -22,6 +22,23 @@ extern "C" {
         lens: *mut u16,
         values: *mut u64,
     );
+    fn korzhinay_evaluate(
+        expr: *const u8,
+        len: usize,
+        table: *const u8,
+        table_len: usize,
+        out: *mut u64,
+    ) -> u8;
+    fn korzhinay_field(
+        buffer: *mut u8,
+        buffer_len: usize,
+        expr: *const u8,
+        len: usize,
+        table: *const u8,
+        table_len: usize,
+        datum: u8,
+        length: *mut u64,
+    ) -> u8;
 }
 
 /// 0 for a well formed table, else its refusal number.
@@ -77,5 +94,55 @@ pub fn tokens(expr: Input, pattern: u64) -> Result<Tokens, String> {
         starts,
         lens,
         values,
+    })
+}
+
+/// 0 or the refusal number, and the six numbers of an answer.
+pub fn evaluate(expr: Input, table: Input, pattern: u64) -> Result<(u8, [u64; 6]), String> {
+    let mut out = Buffer::new(6, pattern);
+    let refusal =
+        unsafe { korzhinay_evaluate(expr.start, expr.len, table.start, table.len, out.start()) };
+    out.check("answer's six numbers")?;
+    let mut answer = [0; 6];
+    answer.copy_from_slice(out.cells());
+    Ok((refusal, answer))
+}
+
+/// Everything that a field's call leaves in the caller's memory.
+#[derive(Debug, PartialEq)]
+pub struct Field {
+    pub refusal: u8,
+    pub length: u64,
+    pub buffer: Vec<u8>,
+}
+
+/// A buffer of `room` bytes is lent, filled with the pattern's last byte.
+pub fn field(
+    expr: Input,
+    table: Input,
+    datum: u8,
+    room: usize,
+    pattern: u64,
+) -> Result<Field, String> {
+    let mut buffer = Buffer::new(room, pattern as u8);
+    let mut length = Buffer::new(1, pattern);
+    let refusal = unsafe {
+        korzhinay_field(
+            buffer.start(),
+            room,
+            expr.start,
+            expr.len,
+            table.start,
+            table.len,
+            datum,
+            length.start(),
+        )
+    };
+    buffer.check("field's buffer")?;
+    length.check("field's length")?;
+    Ok(Field {
+        refusal,
+        length: length.cells()[0],
+        buffer: buffer.cells().to_vec(),
     })
 }

@@ -4,6 +4,8 @@
 //! `KORZHINAY_LIB_DIR=folder cargo run --release`.
 
 mod crash;
+mod evaluations;
+mod fields;
 mod gen;
 mod lent;
 mod library;
@@ -18,11 +20,13 @@ use std::time::Duration;
 
 use subject::{Load, Subject};
 
-const USAGE: &str = "usage: differential [--seed N] [--tables N] [--expressions N] [--seconds N] \
-[--case N]
+const USAGE: &str = "usage: differential [--seed N] [--tables N] [--expressions N] \
+[--evaluations N] [--fields N] [--seconds N] [--case N]
   --seed N         where the random inputs start (default 1)
   --tables N       random cases of tables (default 20000, 0 leaves them out)
-  --expressions N  random cases of expressions (default 200000, 0 leaves them out)
+  --expressions N  random cases of tokens (default 200000, 0 leaves them out)
+  --evaluations N  random cases of a table and four expressions (default 100000, 0 leaves them out)
+  --fields N       random cases of a table and four fields (default 50000, 0 leaves them out)
   --seconds N      go on after these cases until N seconds are over, shared among the subjects
   --case N         run only the random case N of each subject, to look into a mismatch";
 
@@ -30,6 +34,8 @@ struct Options {
     seed: u64,
     tables: u64,
     expressions: u64,
+    evaluations: u64,
+    fields: u64,
     seconds: u64,
     case: Option<u64>,
 }
@@ -40,6 +46,8 @@ impl Options {
             seed: 1,
             tables: 20_000,
             expressions: 200_000,
+            evaluations: 100_000,
+            fields: 50_000,
             seconds: 0,
             case: None,
         };
@@ -49,6 +57,8 @@ impl Options {
                 "--seed" => options.seed = number,
                 "--tables" => options.tables = number,
                 "--expressions" => options.expressions = number,
+                "--evaluations" => options.evaluations = number,
+                "--fields" => options.fields = number,
                 "--seconds" => options.seconds = number,
                 "--case" => options.case = Some(number),
                 _ => return None,
@@ -68,6 +78,8 @@ fn main() -> ExitCode {
     let mut subjects: Vec<(&dyn Subject, u64)> = vec![
         (&tables::Tables, options.tables),
         (&tokens::Tokens, options.expressions),
+        (&evaluations::Evaluations, options.evaluations),
+        (&fields::Fields, options.fields),
     ];
     subjects.retain(|(_, cases)| *cases > 0);
 

@@ -169,7 +169,7 @@ fn numbers(setting: Option<Setting>) -> [u64; 3] {
     }
 }
 
-fn write_table(table: &[u8]) -> String {
+pub fn write_table(table: &[u8]) -> String {
     let mut out = format!("a table of {} bytes", table.len());
     for (index, record) in table.chunks(RECORD).enumerate() {
         out += &format!("\n    record {index}: \"{}\"", escaped(record));

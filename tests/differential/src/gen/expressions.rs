@@ -86,7 +86,7 @@ fn join_unevenly(rng: &mut Prng, pieces: &[Vec<u8>]) -> Vec<u8> {
     out
 }
 
-fn join_well(rng: &mut Prng, pieces: &[Vec<u8>]) -> Vec<u8> {
+pub fn join_well(rng: &mut Prng, pieces: &[Vec<u8>]) -> Vec<u8> {
     match rng.below(2) {
         0 => join_tightly(pieces),
         _ => pieces.join(&b' '),
@@ -232,7 +232,7 @@ fn damaged(rng: &mut Prng, make: fn(&mut Prng) -> Vec<u8>) -> Vec<u8> {
 }
 
 /// Changes one place of the expression.
-fn damage(rng: &mut Prng, expr: &mut Vec<u8>) {
+pub fn damage(rng: &mut Prng, expr: &mut Vec<u8>) {
     let byte = match rng.below(3) {
         0 => rng.byte(),
         1 => rng.pick(SYMBOLS),

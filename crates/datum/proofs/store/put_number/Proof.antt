@@ -5,13 +5,13 @@ use native.Mathlib.Nat.{sub-zero}
 use mathlib.Core.Path.{refl}
 use mathlib.Core.List.{[], _∷_}
 use borrow.Author.Needs.{needs}
-use Rattle.datum.specs.Encoding.{littleEndian}
+use Rattle.datum.specs.Encoding.{lowestBytes}
 use Rattle.datum.proofs.Storing.{Storing, begun, onward, ended, low-next, low-none}
 use Rattle.datum.proofs.store.put_number.Statement.{statement}
 use Rattle.datum.proofs.store.put_number.Tie as tie
 
 abbrev Inv-loop : tie.InvT-loop
-Inv-loop buffer₀ n x rest₀ i₀ buffer rest i = (i ≤ n) × Storing (littleEndian n x) (littleEndian (n - i) rest) buffer₀ buffer i
+Inv-loop buffer₀ n x rest₀ i₀ buffer rest i = (i ≤ n) × Storing (lowestBytes n x) (lowestBytes (n - i) rest) buffer₀ buffer i
 
 abbrev μ-loop : tie.MeasureT-loop
 μ-loop buffer₀ n x rest₀ i₀ buffer rest i = n - i

@@ -1,0 +1,77 @@
+//! Times the value of an expression. Both sides check the whole table at each call, so a large table takes most of the time.
+
+use std::hint::black_box;
+
+use crate::c;
+use crate::settings;
+use crate::timing::{compare, compare_in, ROUNDS};
+
+/// Calls of one expression in a round, so that the clock's own time does not count.
+const CALLS: usize = 1_000;
+
+/// All ten operators are applied where X is 1.
+const TEN: &str = "($(X) + 2) * 3 - 1 << 2 >= 32 AND $(X) < 9 ? 6 & 3 ^ 1 : 4";
+
+pub fn time() {
+    let one = settings::record("X", 1);
+    for (what, text) in [
+        ("$(X) == TRUE, a table of 1 record", "$(X) == TRUE"),
+        ("ten operators, a table of 1 record", TEN),
+    ] {
+        check(text, &one);
+        compare(
+            what,
+            CALLS,
+            || (0..CALLS).for_each(|_| proved(text, &one)),
+            || (0..CALLS).for_each(|_| oracle(text, &one)),
+        );
+    }
+
+    let table = settings::table();
+    let small: Vec<String> = (0..10_000)
+        .map(|i| match i % 4 {
+            0 => format!("$(SETTING_{:04}) == TRUE", i % 500),
+            1 => format!("({i} + 0x{i:X}) * 3 << 2 >= {} AND NOT FALSE", i * 7),
+            2 => format!("$(SETTING_{:04}) GE 48 OR $(ABSENT) LE 5", i % 500),
+            _ => format!("(1 | 2) == {i} ? L'wide' : L'wider' # with a comment"),
+        })
+        .collect();
+    small.iter().for_each(|text| check(text, &table));
+    compare_in(
+        ROUNDS / 4,
+        "a small expression (10,000, 5 rounds), a table of 500 records",
+        small.len(),
+        || small.iter().for_each(|text| proved(text, &table)),
+        || small.iter().for_each(|text| oracle(text, &table)),
+    );
+}
+
+fn answer(text: &str, table: &[u8]) -> (u8, [u64; 6]) {
+    let mut out = [0u64; 6];
+    // SAFETY: the call reads the text and the table and writes six numbers.
+    let refusal = unsafe {
+        c::korzhinay_evaluate(
+            text.as_ptr().cast(),
+            text.len(),
+            table.as_ptr().cast(),
+            table.len(),
+            out.as_mut_ptr(),
+        )
+    };
+    (refusal, out)
+}
+
+fn proved(text: &str, table: &[u8]) {
+    black_box(answer(text, table));
+}
+
+fn oracle(text: &str, table: &[u8]) {
+    let _ = black_box(oracle::evaluate(text.as_bytes(), table));
+}
+
+/// What is timed has a value, with the same count on both sides.
+fn check(text: &str, table: &[u8]) {
+    let (refusal, [.., count, _, _, _]) = answer(text, table);
+    let other = oracle::evaluate(text.as_bytes(), table).map(|outcome| outcome.count);
+    assert!(refusal == 0 && other == Ok(count), "{text}");
+}

@@ -1,0 +1,186 @@
+//! Bytes of data fields: refusals 1 to 12 and 23 to 26, and every byte.
+
+use crate::crash;
+use crate::evaluations::{write, TO_A_TABLE};
+use crate::gen::settings::{self, Names};
+use crate::gen::{fields as gen, tables};
+use crate::lent::{Input, Shown};
+use crate::library::{self, Field};
+use crate::prng::Prng;
+use crate::report::{escaped, Mismatch, Tally};
+use crate::subject::Subject;
+
+/// More than any field has.
+const AMPLE: usize = 2 * oracle::tokens::MAX_BYTES;
+
+/// Values on both sides of each limit, and some refusals.
+#[rustfmt::skip]
+const EXPRESSIONS: [&str; 23] = [
+    "0", "1", "2", "255", "256", "65535", "65536", "4294967295", "4294967296", "1 << 63",
+    "18446744073709551615", "''", "'ab'", "L''", "L'ab'", "$(E)", "$(S)", "$(W)", "1 / 0", "1 | 2",
+    "", "@", "g.P",
+];
+
+pub struct Fields;
+
+impl Subject for Fields {
+    fn name(&self) -> &'static str {
+        "fields"
+    }
+
+    fn units(&self) -> (&'static str, &'static str) {
+        ("fields", "")
+    }
+
+    fn needed(&self) -> &'static [u8] {
+        &[1, 2, 3, 4, 5, 6, 7, 8, 9, 10, 11, 12, 23, 24, 25, 26]
+    }
+
+    fn fixed(&self, tally: &mut Tally) -> Result<(), Mismatch> {
+        for empty in Input::empty_ones() {
+            let ask = Ask {
+                expr: b"",
+                table: b"",
+                datum: 0,
+                room: 0,
+            };
+            ask.compare_at(empty, empty, 1, tally)?;
+        }
+        let settings = [
+            tables::record(b"E", 1, b""),
+            tables::record(b"S", 1, b"a\0\xff"),
+            tables::record(b"W", 2, b"w\0\xff"),
+        ]
+        .concat();
+        for datum in 0..=255 {
+            for expr in EXPRESSIONS {
+                for room in 0..=12 {
+                    let ask = Ask {
+                        expr: expr.as_bytes(),
+                        table: &settings,
+                        datum,
+                        room,
+                    };
+                    ask.compare(room as u64 * 0x1111_1111_1111_1111, tally)?;
+                }
+            }
+        }
+        for (start, each) in [("'", 1), ("L'", 2)] {
+            for count in [56, 57, 510, 511, 512, 1_020, 1_021, 1_022, 1_023] {
+                let expr = format!("{start}{}'", "s".repeat(count));
+                let needed = each * (count + 1);
+                for room in [needed - 1, needed, needed + 1, AMPLE, 0] {
+                    let ask = Ask {
+                        expr: expr.as_bytes(),
+                        table: &settings[..127],
+                        datum: 0,
+                        room,
+                    };
+                    ask.compare(2, tally)?;
+                    Ask { table: b"", ..ask }.compare(3, tally)?;
+                }
+            }
+        }
+        Ok(())
+    }
+
+    fn case(&self, rng: &mut Prng, tally: &mut Tally) -> Result<(), Mismatch> {
+        let table = settings::table(rng);
+        let names = Names::of(&table);
+        for _ in 0..TO_A_TABLE {
+            let expr = gen::expression(rng, &names);
+            let outcome = oracle::evaluate(&expr, &table).ok();
+            let datum = gen::datum(rng, outcome.map(|outcome| outcome.value.kind()));
+            let needed = oracle::field(&expr, &table, datum, &mut [0; AMPLE]).unwrap_or(0);
+            let ask = Ask {
+                expr: &expr,
+                table: &table,
+                datum,
+                room: gen::room(rng, needed),
+            };
+            ask.compare(rng.next(), tally)?;
+        }
+        Ok(())
+    }
+}
+
+/// What is asked for, but for the buffer's bytes before the call.
+#[derive(Clone, Copy)]
+struct Ask<'a> {
+    expr: &'a [u8],
+    table: &'a [u8],
+    datum: u8,
+    room: usize,
+}
+
+impl Ask<'_> {
+    fn compare(&self, pattern: u64, tally: &mut Tally) -> Result<(), Mismatch> {
+        let mut shown = Shown::new(self.expr, pattern);
+        let mut shown_table = Shown::new(self.table, pattern >> 8);
+        self.compare_at(shown.input(), shown_table.input(), pattern, tally)?;
+        let checked = shown.check("expression").and(shown_table.check("table"));
+        checked.map_err(|what| self.broken_memory(what))
+    }
+
+    /// Compares the field of an expression and a table that the library finds
+    /// at these places.
+    fn compare_at(
+        &self,
+        expr_at: Input,
+        table_at: Input,
+        pattern: u64,
+        tally: &mut Tally,
+    ) -> Result<(), Mismatch> {
+        let mut buffer = vec![pattern as u8; self.room];
+        let outcome = oracle::field(self.expr, self.table, self.datum, &mut buffer);
+        let expected = Field {
+            refusal: outcome.err().unwrap_or(0),
+            length: outcome.map_or(0, |length| length as u64),
+            buffer,
+        };
+        tally.add(expected.refusal);
+        crash::input(self.expr);
+        let given = library::field(expr_at, table_at, self.datum, self.room, pattern)
+            .map_err(|what| self.broken_memory(what))?;
+        if given == expected {
+            return Ok(());
+        }
+        let what = if given.refusal != expected.refusal {
+            "refusal"
+        } else if given.length != expected.length {
+            "length"
+        } else {
+            "bytes of the buffer"
+        };
+        Err(Mismatch {
+            what: what.to_string(),
+            input: self.write(),
+            oracle: write_field(&expected),
+            library: write_field(&given),
+        })
+    }
+
+    fn broken_memory(&self, what: String) -> Mismatch {
+        Mismatch {
+            what,
+            input: self.write(),
+            oracle: "does not write there".to_string(),
+            library: "does".to_string(),
+        }
+    }
+
+    fn write(&self) -> String {
+        let (datum, room) = (self.datum, self.room);
+        let input = write(self.expr, self.table);
+        format!("datum {datum}, a buffer of {room} bytes, {input}")
+    }
+}
+
+fn write_field(field: &Field) -> String {
+    format!(
+        "refusal {}, length {}, buffer \"{}\"",
+        field.refusal,
+        field.length,
+        escaped(&field.buffer)
+    )
+}

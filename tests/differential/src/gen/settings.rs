@@ -1,0 +1,95 @@
+//! Tables under which expressions are evaluated, and the names in them.
+
+use oracle::table::{NAME, RECORD};
+
+use super::names::{NUMBERS, TEXTS, WIDES};
+use super::numbers::edge;
+use super::tables;
+use crate::prng::Prng;
+
+/// The kinds of values, as a table numbers them.
+#[derive(Clone, Copy, PartialEq)]
+pub enum Kind {
+    Number = 0,
+    Text = 1,
+    Wide = 2,
+}
+
+pub const KINDS: [Kind; 3] = [Kind::Number, Kind::Text, Kind::Wide];
+
+/// Mostly a table that defines many of the names which expressions use.
+pub fn table(rng: &mut Prng) -> Vec<u8> {
+    match rng.below(24) {
+        0 => Vec::new(),
+        1 | 2 => tables::valid(rng),
+        3 => {
+            let table = known(rng);
+            let mut all = tables::damaged(rng, &table);
+            all.swap_remove(rng.below(all.len())).1
+        }
+        _ => known(rng),
+    }
+}
+
+/// Small numbers and short strings under the known names, a few left out.
+fn known(rng: &mut Prng) -> Vec<u8> {
+    let mut names: Vec<(&str, Kind)> = Vec::new();
+    for (list, kind) in [
+        (&NUMBERS[..], Kind::Number),
+        (&TEXTS, Kind::Text),
+        (&WIDES, Kind::Wide),
+    ] {
+        names.extend(list.iter().map(|&name| (name, kind)));
+    }
+    names.retain(|_| !rng.one_in(5));
+    names.sort_by_key(|&(name, _)| name);
+    names
+        .into_iter()
+        .flat_map(|(name, usual)| {
+            let kind = match rng.below(12) {
+                0 => rng.pick(&KINDS),
+                _ => usual,
+            };
+            let number = edge(rng).to_le_bytes();
+            let content: &[u8] = match kind {
+                Kind::Number => &number,
+                _ => rng.pick(&[&b""[..], b"a", b"ab", b"abc", b"b", b"a\0", b"\xff"]),
+            };
+            tables::record(name.as_bytes(), kind as u8, content)
+        })
+        .collect()
+}
+
+/// The names of a table, by the kinds of what stands under them.
+pub struct Names {
+    by_kind: [Vec<Vec<u8>>; 3],
+}
+
+impl Names {
+    pub fn of(table: &[u8]) -> Names {
+        let mut by_kind = [const { Vec::new() }; 3];
+        let (records, _) = table.as_chunks::<RECORD>();
+        for record in records {
+            let name = record[..NAME].split(|&byte| byte == 0).next();
+            // In a damaged table the kind may be any byte.
+            if let Some(names) = by_kind.get_mut(usize::from(record[NAME])) {
+                names.push(name.unwrap_or_default().to_vec());
+            }
+        }
+        Names { by_kind }
+    }
+
+    /// A name of this kind, or one that may be missing or of another kind.
+    pub fn pick(&self, rng: &mut Prng, kind: Kind) -> Vec<u8> {
+        let names = &self.by_kind[kind as usize];
+        if !names.is_empty() && !rng.one_in(40) {
+            return names[rng.below(names.len())].clone();
+        }
+        match kind {
+            Kind::Number => rng.pick(&NUMBERS),
+            Kind::Text => rng.pick(&TEXTS),
+            Kind::Wide => rng.pick(&WIDES),
+        }
+        .into()
+    }
+}
