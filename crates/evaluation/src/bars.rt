@@ -1,5 +1,6 @@
 // Bars outside parentheses.
 use lexeme::codes;
+use units::TokenNumber;
 ghost use mathlib.Core.Path.{_≡_};
 ghost use mathlib.Core.Bool.{_&&_};
 ghost use Prim.Native.Nat.{_≤_, _<_};
@@ -35,10 +36,11 @@ fn deeper(depth: usize, c: u8) -> usize
 }
 
 // Whether some bar of the first n tokens stands outside all parentheses.
-pub fn outside(codes: &[u8; 200], n: usize) -> bool
-    requires { ⌜ (n ≤ 200) × (n ≤ length (now codes)) ⌝ }
-    ensures { λ r. ⌜ r ≡ barOutside 0 (take n (now (codes .entry))) ⌝ }
+pub fn outside(codes: &[u8; 200], count: TokenNumber) -> bool
+    requires { ⌜ (count .0 ≤ 200) × (count .0 ≤ length (now codes)) ⌝ }
+    ensures { λ r. ⌜ r ≡ barOutside 0 (take (count .0) (now (codes .entry))) ⌝ }
 {
+    let n = count.0;
     let mut depth: usize = 0;
     let mut i: usize = 0;
     while i < n {

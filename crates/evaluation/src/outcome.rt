@@ -6,6 +6,7 @@ use expression::descent;
 use expression::descent::Parsed;
 use token::scan;
 use token::scan::Ending;
+use units::TokenNumber;
 use value::Held;
 use value::Kind;
 use value::Known;
@@ -77,16 +78,15 @@ fn conclude<'a>(
     starts: &'a [u16; 200],
     lens: &'a [u16; 200],
     values: &'a [u64; 200],
-    n: usize,
+    n: TokenNumber,
 ) -> Answer
-    requires { ⌜ (wellFormed (now table) ≡ true) × (n ≤ 200) × (n ≤ length (now codes)) ⌝ }
-    ensures { λ r. ⌜ stated (now (expr .entry)) (now (table .entry)) r ≡ concluded (take n (now (codes .entry))) (parse codeOf (meaning (now (expr .entry)) (now (table .entry))) (tokenAt (now (codes .entry)) (now (starts .entry)) (now (lens .entry)) (now (values .entry)) n) n) ⌝ }
+    requires { ⌜ (wellFormed (now table) ≡ true) × (n .0 ≤ 200) × (n .0 ≤ length (now codes)) ⌝ }
+    ensures { λ r. ⌜ stated (now (expr .entry)) (now (table .entry)) r ≡ concluded (take (n .0) (now (codes .entry))) (parse codeOf (meaning (now (expr .entry)) (now (table .entry))) (tokenAt (now (codes .entry)) (now (starts .entry)) (now (lens .entry)) (now (values .entry)) (n .0)) (n .0)) ⌝ }
 {
-    match descent::expression(expr, table, codes, starts, lens, values, n, 0) {
+    match descent::expression(expr, table, codes, starts, lens, values, n, TokenNumber(0)) {
         Parsed::Bad(_) => refused(units::NO_DERIVATION),
         Parsed::Got(a, end) => {
-            let j = end.0;
-            if j != n {
+            if end.0 != n.0 {
                 return refused(units::NO_DERIVATION);
             }
             judge(bars::outside(codes, n), a)
@@ -108,7 +108,7 @@ pub fn in_sound_table<'a>(expr: &'a [u8], table: &'a [u8]) -> Answer
     let read = s.tokens;
     match ending {
         Ending::Refused(r) => Answer::Refused(r),
-        Ending::Complete => conclude(expr, table, &codes, &starts, &lens, &values, read.0),
+        Ending::Complete => conclude(expr, table, &codes, &starts, &lens, &values, read),
     }
 }
 

@@ -18,11 +18,15 @@ pub enum Parsed {
     Got(Known, TokenNumber),
 }
 
-fn code_at(codes: &[u8; 200], n: usize, i: usize) -> u8
-    requires { ⌜ n ≤ 200 ⌝ }
-    ensures { λ r. ⌜ r ≡ codeAt (now (codes .entry)) n i ⌝ }
+// The code of the end, which no token has.
+const END: u8 = 255;
+
+fn code_at(codes: &[u8; 200], n: TokenNumber, at: TokenNumber) -> u8
+    requires { ⌜ n .0 ≤ 200 ⌝ }
+    ensures { λ r. ⌜ r ≡ codeAt (now (codes .entry)) (n .0) (at .0) ⌝ }
 {
-    if i < n { codes[i] } else { 255 }
+    let i = at.0;
+    if i < n.0 { codes[i] } else { END }
 }
 
 fn token_at(
@@ -30,12 +34,13 @@ fn token_at(
     starts: &[u16; 200],
     lens: &[u16; 200],
     values: &[u64; 200],
-    n: usize,
-    i: usize,
+    n: TokenNumber,
+    at: TokenNumber,
 ) -> Lexical
-    requires { ⌜ (n ≤ 200) × (i < n) ⌝ }
-    ensures { λ r. ⌜ tokenOf r ≡ tokenAt (now (codes .entry)) (now (starts .entry)) (now (lens .entry)) (now (values .entry)) n i ⌝ }
+    requires { ⌜ (n .0 ≤ 200) × (at .0 < n .0) ⌝ }
+    ensures { λ r. ⌜ tokenOf r ≡ tokenAt (now (codes .entry)) (now (starts .entry)) (now (lens .entry)) (now (values .entry)) (n .0) (at .0) ⌝ }
 {
+    let i = at.0;
     Lexical {
         code: codes[i],
         start: starts[i],
@@ -114,27 +119,43 @@ pub fn expression<'a>(
     starts: &'a [u16; 200],
     lens: &'a [u16; 200],
     values: &'a [u64; 200],
-    n: usize,
-    i: usize,
+    n: TokenNumber,
+    i: TokenNumber,
 ) -> Parsed
-    requires { ⌜ Ready (now table) n i ⌝ }
-    ensures { λ r. ⌜ Parses (now (expr .entry)) (now (table .entry)) (now (codes .entry)) (now (starts .entry)) (now (lens .entry)) (now (values .entry)) n (find whole i) r ⌝ }
+    requires { ⌜ Ready (now table) (n .0) (i .0) ⌝ }
+    ensures { λ r. ⌜ Parses (now (expr .entry)) (now (table .entry)) (now (codes .entry)) (now (starts .entry)) (now (lens .entry)) (now (values .entry)) (n .0) (find whole (i .0)) r ⌝ }
 {
     match level(expr, table, codes, starts, lens, values, n, 12, i) {
         Parsed::Bad(e) => Parsed::Bad(e),
         Parsed::Got(c, at) => {
-            let j = at.0;
-            if code_at(codes, n, j) != codes::QUESTION {
+            if code_at(codes, n, at) != codes::QUESTION {
                 return Parsed::Got(c, at);
             }
-            match expression(expr, table, codes, starts, lens, values, n, j + 1) {
+            match expression(
+                expr,
+                table,
+                codes,
+                starts,
+                lens,
+                values,
+                n,
+                TokenNumber(at.0 + 1),
+            ) {
                 Parsed::Bad(e) => Parsed::Bad(e),
                 Parsed::Got(a, next) => {
-                    let q = next.0;
-                    if code_at(codes, n, q) != codes::COLON {
+                    if code_at(codes, n, next) != codes::COLON {
                         return Parsed::Bad(next);
                     }
-                    match expression(expr, table, codes, starts, lens, values, n, q + 1) {
+                    match expression(
+                        expr,
+                        table,
+                        codes,
+                        starts,
+                        lens,
+                        values,
+                        n,
+                        TokenNumber(next.0 + 1),
+                    ) {
                         Parsed::Bad(e) => Parsed::Bad(e),
                         Parsed::Got(b, end) => {
                             let z = attributes::of_choice(c, a, b);
@@ -155,12 +176,12 @@ fn level<'a>(
     starts: &'a [u16; 200],
     lens: &'a [u16; 200],
     values: &'a [u64; 200],
-    n: usize,
+    n: TokenNumber,
     k: usize,
-    i: usize,
+    i: TokenNumber,
 ) -> Parsed
-    requires { ⌜ Ready (now table) n i × (1 ≤ k) × (k ≤ 12) ⌝ }
-    ensures { λ r. ⌜ Parses (now (expr .entry)) (now (table .entry)) (now (codes .entry)) (now (starts .entry)) (now (lens .entry)) (now (values .entry)) n (find (levelAt k) i) r ⌝ }
+    requires { ⌜ Ready (now table) (n .0) (i .0) × (1 ≤ k) × (k ≤ 12) ⌝ }
+    ensures { λ r. ⌜ Parses (now (expr .entry)) (now (table .entry)) (now (codes .entry)) (now (starts .entry)) (now (lens .entry)) (now (values .entry)) (n .0) (find (levelAt k) (i .0)) r ⌝ }
 {
     if k == 1 {
         return unary(expr, table, codes, starts, lens, values, n, i);
@@ -168,10 +189,7 @@ fn level<'a>(
     let d = k - 1;
     match level(expr, table, codes, starts, lens, values, n, d, i) {
         Parsed::Bad(e) => Parsed::Bad(e),
-        Parsed::Got(a, at) => {
-            let j = at.0;
-            tail(expr, table, codes, starts, lens, values, n, d, a, j)
-        }
+        Parsed::Got(a, at) => { tail(expr, table, codes, starts, lens, values, n, d, a, at) }
     }
 }
 
@@ -183,24 +201,33 @@ fn tail<'a>(
     starts: &'a [u16; 200],
     lens: &'a [u16; 200],
     values: &'a [u64; 200],
-    n: usize,
+    n: TokenNumber,
     k: usize,
     a: Known,
-    j: usize,
+    j: TokenNumber,
 ) -> Parsed
-    requires { ⌜ Ready (now table) n j × (1 ≤ k) × (k < 12) × (a .count ≤ j) ⌝ }
-    ensures { λ r. ⌜ Parses (now (expr .entry)) (now (table .entry)) (now (codes .entry)) (now (starts .entry)) (now (lens .entry)) (now (values .entry)) n (extend k (known (now (expr .entry)) (now (table .entry)) a) j) r ⌝ }
+    requires { ⌜ Ready (now table) (n .0) (j .0) × (1 ≤ k) × (k < 12) × (a .count ≤ j .0) ⌝ }
+    ensures { λ r. ⌜ Parses (now (expr .entry)) (now (table .entry)) (now (codes .entry)) (now (starts .entry)) (now (lens .entry)) (now (values .entry)) (n .0) (extend k (known (now (expr .entry)) (now (table .entry)) a) (j .0)) r ⌝ }
 {
     let o = code_at(codes, n, j);
     if level_of(o) as usize != k + 1 {
-        return Parsed::Got(a, TokenNumber(j));
+        return Parsed::Got(a, j);
     }
-    match level(expr, table, codes, starts, lens, values, n, k, j + 1) {
+    match level(
+        expr,
+        table,
+        codes,
+        starts,
+        lens,
+        values,
+        n,
+        k,
+        TokenNumber(j.0 + 1),
+    ) {
         Parsed::Bad(e) => Parsed::Bad(e),
         Parsed::Got(b, next) => {
-            let q = next.0;
             let z = attributes::of_binary(expr, table, o, a, b);
-            tail(expr, table, codes, starts, lens, values, n, k, z, q)
+            tail(expr, table, codes, starts, lens, values, n, k, z, next)
         }
     }
 }
@@ -212,17 +239,26 @@ fn unary<'a>(
     starts: &'a [u16; 200],
     lens: &'a [u16; 200],
     values: &'a [u64; 200],
-    n: usize,
-    i: usize,
+    n: TokenNumber,
+    i: TokenNumber,
 ) -> Parsed
-    requires { ⌜ Ready (now table) n i ⌝ }
-    ensures { λ r. ⌜ Parses (now (expr .entry)) (now (table .entry)) (now (codes .entry)) (now (starts .entry)) (now (lens .entry)) (now (values .entry)) n (find (levelAt 1) i) r ⌝ }
+    requires { ⌜ Ready (now table) (n .0) (i .0) ⌝ }
+    ensures { λ r. ⌜ Parses (now (expr .entry)) (now (table .entry)) (now (codes .entry)) (now (starts .entry)) (now (lens .entry)) (now (values .entry)) (n .0) (find (levelAt 1) (i .0)) r ⌝ }
 {
     let o = code_at(codes, n, i);
     if !is_unary(o) {
         return primary(expr, table, codes, starts, lens, values, n, i);
     }
-    match unary(expr, table, codes, starts, lens, values, n, i + 1) {
+    match unary(
+        expr,
+        table,
+        codes,
+        starts,
+        lens,
+        values,
+        n,
+        TokenNumber(i.0 + 1),
+    ) {
         Parsed::Bad(e) => Parsed::Bad(e),
         Parsed::Got(a, next) => {
             let z = attributes::of_unary(o, a);
@@ -238,29 +274,37 @@ fn primary<'a>(
     starts: &'a [u16; 200],
     lens: &'a [u16; 200],
     values: &'a [u64; 200],
-    n: usize,
-    i: usize,
+    n: TokenNumber,
+    i: TokenNumber,
 ) -> Parsed
-    requires { ⌜ Ready (now table) n i ⌝ }
-    ensures { λ r. ⌜ Parses (now (expr .entry)) (now (table .entry)) (now (codes .entry)) (now (starts .entry)) (now (lens .entry)) (now (values .entry)) n (find (levelAt 0) i) r ⌝ }
+    requires { ⌜ Ready (now table) (n .0) (i .0) ⌝ }
+    ensures { λ r. ⌜ Parses (now (expr .entry)) (now (table .entry)) (now (codes .entry)) (now (starts .entry)) (now (lens .entry)) (now (values .entry)) (n .0) (find (levelAt 0) (i .0)) r ⌝ }
 {
     let o = code_at(codes, n, i);
     if is_primary(o) {
         let k = token_at(codes, starts, lens, values, n, i);
         let z = attributes::of_primary(expr, table, k);
-        return Parsed::Got(z, TokenNumber(i + 1));
+        return Parsed::Got(z, TokenNumber(i.0 + 1));
     }
     if o != codes::OPEN {
-        return Parsed::Bad(TokenNumber(i));
+        return Parsed::Bad(i);
     }
-    match expression(expr, table, codes, starts, lens, values, n, i + 1) {
+    match expression(
+        expr,
+        table,
+        codes,
+        starts,
+        lens,
+        values,
+        n,
+        TokenNumber(i.0 + 1),
+    ) {
         Parsed::Bad(e) => Parsed::Bad(e),
         Parsed::Got(a, next) => {
-            let j = next.0;
-            if code_at(codes, n, j) != codes::CLOSE {
+            if code_at(codes, n, next) != codes::CLOSE {
                 return Parsed::Bad(next);
             }
-            Parsed::Got(a, TokenNumber(j + 1))
+            Parsed::Got(a, TokenNumber(next.0 + 1))
         }
     }
 }

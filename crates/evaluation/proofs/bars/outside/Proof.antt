@@ -27,7 +27,7 @@ is-outside-requires c κs = search needs
 returns : tie.Need-returns Inv-loop μ-loop
 returns c = let l = c .before .before .before .before .loop in
     let s = c .before .before .before .before .before in
-    sym (l .inv .2 ∙ on (s .args .codes .now) (s .args .n) (s .pre .1) (l .i) (l .depth) (c .before .before .before .loop-test .taken) ∙ rw (← c .before .is-outside .ensures, c .if1 .taken))
+    sym (l .inv .2 ∙ on (s .args .codes .now) (s .args .count .0) (s .pre .1) (l .i) (l .depth) (c .before .before .before .loop-test .taken) ∙ rw (← c .before .is-outside .ensures, c .if1 .taken))
 
 deeper-requires : tie.Need-deeper-requires Inv-loop μ-loop
 deeper-requires c κs = omega (arith, c .before .before .before .before .before .pre .0)
@@ -42,12 +42,12 @@ loop-again : tie.Need-loop-again Inv-loop μ-loop
 loop-again c = let l = c .before .before .before .before .before .loop in
     let s = c .before .before .before .before .before .before in
     let d = c .deeper .ensures in
-    (omega arith, omega (arith, d, deeper-most (l .depth) (getD (s .args .codes .now) (l .i) 0)), l .inv .2 ∙ on (s .args .codes .now) (s .args .n) (s .pre .1) (l .i) (l .depth) (c .before .before .before .before .loop-test .taken) ∙ rw (← c .before .before .is-outside .ensures, c .before .if1 .left, d))
+    (omega arith, omega (arith, d, deeper-most (l .depth) (getD (s .args .codes .now) (l .i) 0)), l .inv .2 ∙ on (s .args .codes .now) (s .args .count .0) (s .pre .1) (l .i) (l .depth) (c .before .before .before .before .loop-test .taken) ∙ rw (← c .before .before .is-outside .ensures, c .before .if1 .left, d))
 
 returns-2 : tie.Need-returns-2 Inv-loop μ-loop
 returns-2 c = let l = c .before .loop in
     let s = c .before .before in
-    sym (l .inv .2 ∙ over (s .args .codes .now) (s .args .n) (s .pre .1) (l .i) (l .depth) (c .loop-test .left))
+    sym (l .inv .2 ∙ over (s .args .codes .now) (s .args .count .0) (s .pre .1) (l .i) (l .depth) (c .loop-test .left))
 
 pub outside-spec : {M : Type 1} → statement M
 outside-spec =

@@ -25,13 +25,13 @@ refused-requires-2 c κs = search needs
 
 returns : tie.Need-returns
 returns c =
-    let s = c .before .before .before .before .before .before .before .before in
-    let u = rw (c .before .before .before .a .given .1) at (c .before .before .before .before .before .expression .ensures) in
+    let s = c .before .before .before .before .before .before .before .before .before .before in
+    let u = rw (c .before .before .before .before .before .a .given .1) at (c .before .before .before .before .before .before .before .expression .ensures) in
     c .refused2 .ensures (s .args .expr .now) (s .args .table .now) ∙ rw (whole-rest u (c .before .if1 .taken))
 
 outside-requires : tie.Need-outside-requires
 outside-requires c κs =
-    let s = c .before .before .before .before .before .before .before in
+    let s = c .before .before .before .before .before .before .before .before .before in
     (s .pre .1, s .pre .2)
 
 judge-requires : tie.Need-judge-requires
@@ -45,8 +45,8 @@ returns-2 c =
 
 returns-3 : tie.Need-returns-3
 returns-3 c =
-    let s = c .before .before .before .before .before .before .before .before .before in
-    let u = rw (c .before .before .before .before .a .given .1) at (c .before .before .before .before .before .before .expression .ensures) in
+    let s = c .before .before .before .before .before .before .before .before .before .before .before in
+    let u = rw (c .before .before .before .before .before .before .a .given .1) at (c .before .before .before .before .before .before .before .before .expression .ensures) in
     c .judge .ensures (s .args .expr .now) (s .args .table .now) ∙ rw (c .before .outside .ensures, whole-made u (c .before .before .if1 .left))
 
 pub conclude-spec : {M : Type 1} → statement M

@@ -43,19 +43,19 @@ use Rattle.expression.proofs.descent.+expression+level+primary+tail+una
 use Rattle.expression.proofs.descent.+expression+level+primary+tail+unary.Tie.{close}
 
 abbrev μ-expression : Measures 1 expression-kinds.ps ℕ
-μ-expression κs a = 16 * (a .1 .1 .1 .1 .1 .1 .0 - a .1 .1 .1 .1 .1 .1 .1 .0) + 15
+μ-expression κs a = 16 * (a .1 .1 .1 .1 .1 .1 .0 .0 - a .1 .1 .1 .1 .1 .1 .1 .0 .0) + 15
 
 abbrev μ-level : Measures 1 level-kinds.ps ℕ
-μ-level κs a = 16 * (a .1 .1 .1 .1 .1 .1 .0 - a .1 .1 .1 .1 .1 .1 .1 .1 .0) + 2 + a .1 .1 .1 .1 .1 .1 .1 .0
+μ-level κs a = 16 * (a .1 .1 .1 .1 .1 .1 .0 .0 - a .1 .1 .1 .1 .1 .1 .1 .1 .0 .0) + 2 + a .1 .1 .1 .1 .1 .1 .1 .0
 
 abbrev μ-primary : Measures 1 primary-kinds.ps ℕ
-μ-primary κs a = 16 * (a .1 .1 .1 .1 .1 .1 .0 - a .1 .1 .1 .1 .1 .1 .1 .0)
+μ-primary κs a = 16 * (a .1 .1 .1 .1 .1 .1 .0 .0 - a .1 .1 .1 .1 .1 .1 .1 .0 .0)
 
 abbrev μ-tail : Measures 1 tail-kinds.ps ℕ
-μ-tail κs a = 16 * (a .1 .1 .1 .1 .1 .1 .0 - a .1 .1 .1 .1 .1 .1 .1 .1 .1 .0)
+μ-tail κs a = 16 * (a .1 .1 .1 .1 .1 .1 .0 .0 - a .1 .1 .1 .1 .1 .1 .1 .1 .1 .0 .0)
 
 abbrev μ-unary : Measures 1 unary-kinds.ps ℕ
-μ-unary κs a = 16 * (a .1 .1 .1 .1 .1 .1 .0 - a .1 .1 .1 .1 .1 .1 .1 .0) + 1
+μ-unary κs a = 16 * (a .1 .1 .1 .1 .1 .1 .0 .0 - a .1 .1 .1 .1 .1 .1 .1 .0 .0) + 1
 
 abbrev expression-at : ℕ → In 1 expression-kinds.ps
 expression-at t =
@@ -126,20 +126,20 @@ expression-returns : (t : ℕ) → expression-lts.Need-returns (expression-claim
 expression-returns t c =
     let s = c .before .before .before .before .before .before .before .before in
     let u = rw (c .before .before .before .c .given .1) at (c .before .before .before .before .before .level .ensures) in
-    choice-none (ends (s .args .codes .now) (s .args .starts .now) (s .args .lens .now) (s .args .values .now) (s .args .n)) (s .args .i) (known (s .args .expr .now) (s .args .table .now) (c .before .before .before .c .given .0 .0)) (c .before .before .before .c .given .0 .1 .0 .0) u (λ z. c .if1 .taken (c .before .code-at .ensures ∙ z))
+    choice-none (ends (s .args .codes .now) (s .args .starts .now) (s .args .lens .now) (s .args .values .now) (s .args .n .0)) (s .args .i .0) (known (s .args .expr .now) (s .args .table .now) (c .before .before .before .c .given .0 .0)) (c .before .before .before .c .given .0 .1 .0 .0) u (λ z. c .if1 .taken (c .before .code-at .ensures ∙ z))
 
-expression-add-expression : (t : ℕ) → expression-lts.Need-add-expression (expression-claims t) (expression-at t) expression.Post
-expression-add-expression t c =
-    let s = c .before .before .before .before .before .before .before .before in
-    let u = rw (c .before .before .before .c .given .1) at (c .before .before .before .before .before .level .ensures) in
-    omega (arith, moved (ends (s .args .codes .now) (s .args .starts .now) (s .args .lens .now) (s .args .values .now) (s .args .n)) u (omega arith), s .pre .1 .few)
+expression-add-t24 : (t : ℕ) → expression-lts.Need-add-t24 (expression-claims t) (expression-at t) expression.Post
+expression-add-t24 t c =
+    let s = c .before .before .before .before .before .before .before .before .before in
+    let u = rw (c .before .before .before .before .c .given .1) at (c .before .before .before .before .before .before .level .ensures) in
+    omega (arith, moved (ends (s .args .codes .now) (s .args .starts .now) (s .args .lens .now) (s .args .values .now) (s .args .n .0)) u (omega arith), s .pre .1 .few)
 
 expression-expression-requires : (t : ℕ) → expression-lts.Need-expression-requires (expression-claims t) (expression-at t) expression.Post
 expression-expression-requires t c κs =
-    let s = c .before .before .before .before .before .before .before .before in
-    let u = rw (c .before .before .before .c .given .1) at (c .before .before .before .before .before .level .ensures) in
-    let e = sym (c .before .code-at .ensures) ∙ c .if1 .left in
-    (omega (arith, s .pre .0, moved (ends (s .args .codes .now) (s .args .starts .now) (s .args .lens .now) (s .args .values .now) (s .args .n)) u (omega arith), code-inside (ends (s .args .codes .now) (s .args .starts .now) (s .args .lens .now) (s .args .values .now) (s .args .n)) (c .before .before .before .c .given .0 .1 .0 .0) 12 (omega arith) e), record { sound = s .pre .1 .sound; few = s .pre .1 .few; within = omega (arith, code-inside (ends (s .args .codes .now) (s .args .starts .now) (s .args .lens .now) (s .args .values .now) (s .args .n)) (c .before .before .before .c .given .0 .1 .0 .0) 12 (omega arith) e) })
+    let s = c .before .before .before .before .before .before .before .before .before in
+    let u = rw (c .before .before .before .before .c .given .1) at (c .before .before .before .before .before .before .level .ensures) in
+    let e = sym (c .before .before .code-at .ensures) ∙ c .before .if1 .left in
+    (omega (arith, s .pre .0, moved (ends (s .args .codes .now) (s .args .starts .now) (s .args .lens .now) (s .args .values .now) (s .args .n .0)) u (omega arith), code-inside (ends (s .args .codes .now) (s .args .starts .now) (s .args .lens .now) (s .args .values .now) (s .args .n .0)) (c .before .before .before .before .c .given .0 .1 .0 .0) 12 (omega arith) e), record { sound = s .pre .1 .sound; few = s .pre .1 .few; within = omega (arith, code-inside (ends (s .args .codes .now) (s .args .starts .now) (s .args .lens .now) (s .args .values .now) (s .args .n .0)) (c .before .before .before .before .c .given .0 .1 .0 .0) 12 (omega arith) e) })
 
 expression-enum-known-e-2 : (t : ℕ) → expression-lts.Need-enum-known-e-2 (expression-claims t) (expression-at t) expression.Post
 expression-enum-known-e-2 t c =
@@ -151,31 +151,31 @@ expression-enum-known-a t c =
 
 expression-code-at-requires-2 : (t : ℕ) → expression-lts.Need-code-at-requires-2 (expression-claims t) (expression-at t) expression.Post
 expression-code-at-requires-2 t c κs =
-    let s = c .before .before .before .before .before .before .before .before .before .before .before .before in
+    let s = c .before .before .before .before .before .before .before .before .before .before .before .before .before in
     s .pre .1 .few
 
 expression-returns-2 : (t : ℕ) → expression-lts.Need-returns-2 (expression-claims t) (expression-at t) expression.Post
 expression-returns-2 t c =
-    let s = c .before .before .before .before .before .before .before .before .before .before .before .before .before .before in
-    let u = rw (c .before .before .before .before .before .before .before .before .before .c .given .1) at (c .before .before .before .before .before .before .before .before .before .before .before .level .ensures) in
-    let e = sym (c .before .before .before .before .before .before .before .code-at .ensures) ∙ c .before .before .before .before .before .before .if1 .left in
+    let s = c .before .before .before .before .before .before .before .before .before .before .before .before .before .before .before in
+    let u = rw (c .before .before .before .before .before .before .before .before .before .before .c .given .1) at (c .before .before .before .before .before .before .before .before .before .before .before .before .level .ensures) in
+    let e = sym (c .before .before .before .before .before .before .before .before .code-at .ensures) ∙ c .before .before .before .before .before .before .before .if1 .left in
     let v = rw (c .before .before .before .a .given .1) at (c .before .before .before .before .before .expression .ensures) in
-    choice-no-colon (ends (s .args .codes .now) (s .args .starts .now) (s .args .lens .now) (s .args .values .now) (s .args .n)) (s .args .i) (known (s .args .expr .now) (s .args .table .now) (c .before .before .before .before .before .before .before .before .before .c .given .0 .0)) (c .before .before .before .before .before .before .before .before .before .c .given .0 .1 .0 .0) u e (known (s .args .expr .now) (s .args .table .now) (c .before .before .before .a .given .0 .0)) (c .before .before .before .a .given .0 .1 .0 .0) v (λ z. c .if2 .taken (c .before .code-at2 .ensures ∙ z))
+    choice-no-colon (ends (s .args .codes .now) (s .args .starts .now) (s .args .lens .now) (s .args .values .now) (s .args .n .0)) (s .args .i .0) (known (s .args .expr .now) (s .args .table .now) (c .before .before .before .before .before .before .before .before .before .before .c .given .0 .0)) (c .before .before .before .before .before .before .before .before .before .before .c .given .0 .1 .0 .0) u e (known (s .args .expr .now) (s .args .table .now) (c .before .before .before .a .given .0 .0)) (c .before .before .before .a .given .0 .1 .0 .0) v (λ z. c .if2 .taken (c .before .code-at2 .ensures ∙ z))
 
-expression-add-expression-2 : (t : ℕ) → expression-lts.Need-add-expression-2 (expression-claims t) (expression-at t) expression.Post
-expression-add-expression-2 t c =
-    let s = c .before .before .before .before .before .before .before .before .before .before .before .before .before .before in
-    let v = rw (c .before .before .before .a .given .1) at (c .before .before .before .before .before .expression .ensures) in
-    omega (arith, moved (ends (s .args .codes .now) (s .args .starts .now) (s .args .lens .now) (s .args .values .now) (s .args .n)) v tt, s .pre .1 .few)
+expression-add-t30 : (t : ℕ) → expression-lts.Need-add-t30 (expression-claims t) (expression-at t) expression.Post
+expression-add-t30 t c =
+    let s = c .before .before .before .before .before .before .before .before .before .before .before .before .before .before .before .before in
+    let v = rw (c .before .before .before .before .a .given .1) at (c .before .before .before .before .before .before .expression .ensures) in
+    omega (arith, moved (ends (s .args .codes .now) (s .args .starts .now) (s .args .lens .now) (s .args .values .now) (s .args .n .0)) v tt, s .pre .1 .few)
 
 expression-expression-requires-2 : (t : ℕ) → expression-lts.Need-expression-requires-2 (expression-claims t) (expression-at t) expression.Post
 expression-expression-requires-2 t c κs =
-    let s = c .before .before .before .before .before .before .before .before .before .before .before .before .before .before in
-    let u = rw (c .before .before .before .before .before .before .before .before .before .c .given .1) at (c .before .before .before .before .before .before .before .before .before .before .before .level .ensures) in
-    let e = sym (c .before .before .before .before .before .before .before .code-at .ensures) ∙ c .before .before .before .before .before .before .if1 .left in
-    let v = rw (c .before .before .before .a .given .1) at (c .before .before .before .before .before .expression .ensures) in
-    let f = sym (c .before .code-at2 .ensures) ∙ c .if2 .left in
-    (omega (arith, s .pre .0, moved (ends (s .args .codes .now) (s .args .starts .now) (s .args .lens .now) (s .args .values .now) (s .args .n)) u (omega arith), moved (ends (s .args .codes .now) (s .args .starts .now) (s .args .lens .now) (s .args .values .now) (s .args .n)) v tt, code-inside (ends (s .args .codes .now) (s .args .starts .now) (s .args .lens .now) (s .args .values .now) (s .args .n)) (c .before .before .before .a .given .0 .1 .0 .0) 13 (omega arith) f), record { sound = s .pre .1 .sound; few = s .pre .1 .few; within = omega (arith, code-inside (ends (s .args .codes .now) (s .args .starts .now) (s .args .lens .now) (s .args .values .now) (s .args .n)) (c .before .before .before .a .given .0 .1 .0 .0) 13 (omega arith) f) })
+    let s = c .before .before .before .before .before .before .before .before .before .before .before .before .before .before .before .before in
+    let u = rw (c .before .before .before .before .before .before .before .before .before .before .before .c .given .1) at (c .before .before .before .before .before .before .before .before .before .before .before .before .before .level .ensures) in
+    let e = sym (c .before .before .before .before .before .before .before .before .before .code-at .ensures) ∙ c .before .before .before .before .before .before .before .before .if1 .left in
+    let v = rw (c .before .before .before .before .a .given .1) at (c .before .before .before .before .before .before .expression .ensures) in
+    let f = sym (c .before .before .code-at2 .ensures) ∙ c .before .if2 .left in
+    (omega (arith, s .pre .0, moved (ends (s .args .codes .now) (s .args .starts .now) (s .args .lens .now) (s .args .values .now) (s .args .n .0)) u (omega arith), moved (ends (s .args .codes .now) (s .args .starts .now) (s .args .lens .now) (s .args .values .now) (s .args .n .0)) v tt, code-inside (ends (s .args .codes .now) (s .args .starts .now) (s .args .lens .now) (s .args .values .now) (s .args .n .0)) (c .before .before .before .before .a .given .0 .1 .0 .0) 13 (omega arith) f), record { sound = s .pre .1 .sound; few = s .pre .1 .few; within = omega (arith, code-inside (ends (s .args .codes .now) (s .args .starts .now) (s .args .lens .now) (s .args .values .now) (s .args .n .0)) (c .before .before .before .before .a .given .0 .1 .0 .0) 13 (omega arith) f) })
 
 expression-enum-known-e-3 : (t : ℕ) → expression-lts.Need-enum-known-e-3 (expression-claims t) (expression-at t) expression.Post
 expression-enum-known-e-3 t c =
@@ -187,42 +187,42 @@ expression-enum-known-b t c =
 
 expression-of-choice-requires : (t : ℕ) → expression-lts.Need-of-choice-requires (expression-claims t) (expression-at t) expression.Post
 expression-of-choice-requires t c κs =
-    let s = c .before .before .before .before .before .before .before .before .before .before .before .before .before .before .before .before .before .before in
-    let u = rw (c .before .before .before .before .before .before .before .before .before .before .before .before .before .c .given .1) at (c .before .before .before .before .before .before .before .before .before .before .before .before .before .before .before .level .ensures) in
-    let v = rw (c .before .before .before .before .before .before .before .a .given .1) at (c .before .before .before .before .before .before .before .before .before .expression .ensures) in
+    let s = c .before .before .before .before .before .before .before .before .before .before .before .before .before .before .before .before .before .before .before .before in
+    let u = rw (c .before .before .before .before .before .before .before .before .before .before .before .before .before .before .before .c .given .1) at (c .before .before .before .before .before .before .before .before .before .before .before .before .before .before .before .before .before .level .ensures) in
+    let v = rw (c .before .before .before .before .before .before .before .before .a .given .1) at (c .before .before .before .before .before .before .before .before .before .before .expression .ensures) in
     let w = rw (c .before .b .given .1) at (c .before .before .before .expression2 .ensures) in
-    omega (arith, counted (ends (s .args .codes .now) (s .args .starts .now) (s .args .lens .now) (s .args .values .now) (s .args .n)) (counts (s .args .expr .now) (s .args .table .now)) u (omega arith), counted (ends (s .args .codes .now) (s .args .starts .now) (s .args .lens .now) (s .args .values .now) (s .args .n)) (counts (s .args .expr .now) (s .args .table .now)) v tt, counted (ends (s .args .codes .now) (s .args .starts .now) (s .args .lens .now) (s .args .values .now) (s .args .n)) (counts (s .args .expr .now) (s .args .table .now)) w tt, s .pre .1 .few)
+    omega (arith, counted (ends (s .args .codes .now) (s .args .starts .now) (s .args .lens .now) (s .args .values .now) (s .args .n .0)) (counts (s .args .expr .now) (s .args .table .now)) u (omega arith), counted (ends (s .args .codes .now) (s .args .starts .now) (s .args .lens .now) (s .args .values .now) (s .args .n .0)) (counts (s .args .expr .now) (s .args .table .now)) v tt, counted (ends (s .args .codes .now) (s .args .starts .now) (s .args .lens .now) (s .args .values .now) (s .args .n .0)) (counts (s .args .expr .now) (s .args .table .now)) w tt, s .pre .1 .few)
 
 expression-returns-3 : (t : ℕ) → expression-lts.Need-returns-3 (expression-claims t) (expression-at t) expression.Post
 expression-returns-3 t c =
     let s = c .before .before .before .before .before .before in
-    expression-bad (ends (s .args .codes .now) (s .args .starts .now) (s .args .lens .now) (s .args .values .now) (s .args .n)) (s .args .i) _ (rw (c .before .e .given .1) at (c .before .before .before .level .ensures))
+    expression-bad (ends (s .args .codes .now) (s .args .starts .now) (s .args .lens .now) (s .args .values .now) (s .args .n .0)) (s .args .i .0) _ (rw (c .before .e .given .1) at (c .before .before .before .level .ensures))
 
 expression-returns-4 : (t : ℕ) → expression-lts.Need-returns-4 (expression-claims t) (expression-at t) expression.Post
 expression-returns-4 t c =
-    let s = c .before .before .before .before .before .before .before .before .before .before .before .before in
-    let u = rw (c .before .before .before .before .before .before .before .c .given .1) at (c .before .before .before .before .before .before .before .before .before .level .ensures) in
-    let e = sym (c .before .before .before .before .before .code-at .ensures) ∙ c .before .before .before .before .if1 .left in
-    choice-bad-first (ends (s .args .codes .now) (s .args .starts .now) (s .args .lens .now) (s .args .values .now) (s .args .n)) (s .args .i) (known (s .args .expr .now) (s .args .table .now) (c .before .before .before .before .before .before .before .c .given .0 .0)) (c .before .before .before .before .before .before .before .c .given .0 .1 .0 .0) u e _ (rw (c .before .e2 .given .1) at (c .before .before .before .expression .ensures))
+    let s = c .before .before .before .before .before .before .before .before .before .before .before .before .before in
+    let u = rw (c .before .before .before .before .before .before .before .before .c .given .1) at (c .before .before .before .before .before .before .before .before .before .before .level .ensures) in
+    let e = sym (c .before .before .before .before .before .before .code-at .ensures) ∙ c .before .before .before .before .before .if1 .left in
+    choice-bad-first (ends (s .args .codes .now) (s .args .starts .now) (s .args .lens .now) (s .args .values .now) (s .args .n .0)) (s .args .i .0) (known (s .args .expr .now) (s .args .table .now) (c .before .before .before .before .before .before .before .before .c .given .0 .0)) (c .before .before .before .before .before .before .before .before .c .given .0 .1 .0 .0) u e _ (rw (c .before .e2 .given .1) at (c .before .before .before .expression .ensures))
 
 expression-returns-5 : (t : ℕ) → expression-lts.Need-returns-5 (expression-claims t) (expression-at t) expression.Post
 expression-returns-5 t c =
-    let s = c .before .before .before .before .before .before .before .before .before .before .before .before .before .before .before .before .before .before in
-    let u = rw (c .before .before .before .before .before .before .before .before .before .before .before .before .before .c .given .1) at (c .before .before .before .before .before .before .before .before .before .before .before .before .before .before .before .level .ensures) in
-    let e = sym (c .before .before .before .before .before .before .before .before .before .before .before .code-at .ensures) ∙ c .before .before .before .before .before .before .before .before .before .before .if1 .left in
-    let v = rw (c .before .before .before .before .before .before .before .a .given .1) at (c .before .before .before .before .before .before .before .before .before .expression .ensures) in
-    let f = sym (c .before .before .before .before .before .code-at2 .ensures) ∙ c .before .before .before .before .if2 .left in
-    choice-bad-second (ends (s .args .codes .now) (s .args .starts .now) (s .args .lens .now) (s .args .values .now) (s .args .n)) (s .args .i) (known (s .args .expr .now) (s .args .table .now) (c .before .before .before .before .before .before .before .before .before .before .before .before .before .c .given .0 .0)) (c .before .before .before .before .before .before .before .before .before .before .before .before .before .c .given .0 .1 .0 .0) u e (known (s .args .expr .now) (s .args .table .now) (c .before .before .before .before .before .before .before .a .given .0 .0)) (c .before .before .before .before .before .before .before .a .given .0 .1 .0 .0) v f _ (rw (c .before .e3 .given .1) at (c .before .before .before .expression2 .ensures))
+    let s = c .before .before .before .before .before .before .before .before .before .before .before .before .before .before .before .before .before .before .before .before in
+    let u = rw (c .before .before .before .before .before .before .before .before .before .before .before .before .before .before .before .c .given .1) at (c .before .before .before .before .before .before .before .before .before .before .before .before .before .before .before .before .before .level .ensures) in
+    let e = sym (c .before .before .before .before .before .before .before .before .before .before .before .before .before .code-at .ensures) ∙ c .before .before .before .before .before .before .before .before .before .before .before .before .if1 .left in
+    let v = rw (c .before .before .before .before .before .before .before .before .a .given .1) at (c .before .before .before .before .before .before .before .before .before .before .expression .ensures) in
+    let f = sym (c .before .before .before .before .before .before .code-at2 .ensures) ∙ c .before .before .before .before .before .if2 .left in
+    choice-bad-second (ends (s .args .codes .now) (s .args .starts .now) (s .args .lens .now) (s .args .values .now) (s .args .n .0)) (s .args .i .0) (known (s .args .expr .now) (s .args .table .now) (c .before .before .before .before .before .before .before .before .before .before .before .before .before .before .before .c .given .0 .0)) (c .before .before .before .before .before .before .before .before .before .before .before .before .before .before .before .c .given .0 .1 .0 .0) u e (known (s .args .expr .now) (s .args .table .now) (c .before .before .before .before .before .before .before .before .a .given .0 .0)) (c .before .before .before .before .before .before .before .before .a .given .0 .1 .0 .0) v f _ (rw (c .before .e3 .given .1) at (c .before .before .before .expression2 .ensures))
 
 expression-returns-6 : (t : ℕ) → expression-lts.Need-returns-6 (expression-claims t) (expression-at t) expression.Post
 expression-returns-6 t c =
-    let s = c .before .before .before .before .before .before .before .before .before .before .before .before .before .before .before .before .before .before .before in
-    let u = rw (c .before .before .before .before .before .before .before .before .before .before .before .before .before .before .c .given .1) at (c .before .before .before .before .before .before .before .before .before .before .before .before .before .before .before .before .level .ensures) in
-    let e = sym (c .before .before .before .before .before .before .before .before .before .before .before .before .code-at .ensures) ∙ c .before .before .before .before .before .before .before .before .before .before .before .if1 .left in
-    let v = rw (c .before .before .before .before .before .before .before .before .a .given .1) at (c .before .before .before .before .before .before .before .before .before .before .expression .ensures) in
-    let f = sym (c .before .before .before .before .before .before .code-at2 .ensures) ∙ c .before .before .before .before .before .if2 .left in
+    let s = c .before .before .before .before .before .before .before .before .before .before .before .before .before .before .before .before .before .before .before .before .before in
+    let u = rw (c .before .before .before .before .before .before .before .before .before .before .before .before .before .before .before .before .c .given .1) at (c .before .before .before .before .before .before .before .before .before .before .before .before .before .before .before .before .before .before .level .ensures) in
+    let e = sym (c .before .before .before .before .before .before .before .before .before .before .before .before .before .before .code-at .ensures) ∙ c .before .before .before .before .before .before .before .before .before .before .before .before .before .if1 .left in
+    let v = rw (c .before .before .before .before .before .before .before .before .before .a .given .1) at (c .before .before .before .before .before .before .before .before .before .before .before .expression .ensures) in
+    let f = sym (c .before .before .before .before .before .before .before .code-at2 .ensures) ∙ c .before .before .before .before .before .before .if2 .left in
     let w = rw (c .before .before .b .given .1) at (c .before .before .before .before .expression2 .ensures) in
-    rw (c .of-choice .ensures (s .args .expr .now) (s .args .table .now)) (choice-made (ends (s .args .codes .now) (s .args .starts .now) (s .args .lens .now) (s .args .values .now) (s .args .n)) (s .args .i) (known (s .args .expr .now) (s .args .table .now) (c .before .before .before .before .before .before .before .before .before .before .before .before .before .before .c .given .0 .0)) (c .before .before .before .before .before .before .before .before .before .before .before .before .before .before .c .given .0 .1 .0 .0) u e (known (s .args .expr .now) (s .args .table .now) (c .before .before .before .before .before .before .before .before .a .given .0 .0)) (c .before .before .before .before .before .before .before .before .a .given .0 .1 .0 .0) v f _ _ w)
+    rw (c .of-choice .ensures (s .args .expr .now) (s .args .table .now)) (choice-made (ends (s .args .codes .now) (s .args .starts .now) (s .args .lens .now) (s .args .values .now) (s .args .n .0)) (s .args .i .0) (known (s .args .expr .now) (s .args .table .now) (c .before .before .before .before .before .before .before .before .before .before .before .before .before .before .before .before .c .given .0 .0)) (c .before .before .before .before .before .before .before .before .before .before .before .before .before .before .before .before .c .given .0 .1 .0 .0) u e (known (s .args .expr .now) (s .args .table .now) (c .before .before .before .before .before .before .before .before .before .a .given .0 .0)) (c .before .before .before .before .before .before .before .before .before .a .given .0 .1 .0 .0) v f _ _ w)
 
 level-unary-requires : (t : ℕ) → level-lts.Need-unary-requires (level-claims t) (level-at t) level.Post
 level-unary-requires t c κs =
@@ -256,18 +256,18 @@ level-tail-requires : (t : ℕ) → level-lts.Need-tail-requires (level-claims t
 level-tail-requires t c κs =
     let s = c .before .before .before .before .before .before .before in
     let u = rw (c .before .a .given .1) at (c .before .before .before .level .ensures) in
-    (omega (arith, s .pre .0, counted (ends (s .args .codes .now) (s .args .starts .now) (s .args .lens .now) (s .args .values .now) (s .args .n)) (counts (s .args .expr .now) (s .args .table .now)) u (omega (arith, s .pre .1 .2))), (record { sound = s .pre .1 .0 .sound; few = s .pre .1 .0 .few; within = omega (arith, counted (ends (s .args .codes .now) (s .args .starts .now) (s .args .lens .now) (s .args .values .now) (s .args .n)) (counts (s .args .expr .now) (s .args .table .now)) u (omega (arith, s .pre .1 .2))) }, omega (arith, s .pre .1 .1, c .before .before .before .before .if1 .left), omega (arith, s .pre .1 .2, s .pre .1 .1), omega (arith, counted (ends (s .args .codes .now) (s .args .starts .now) (s .args .lens .now) (s .args .values .now) (s .args .n)) (counts (s .args .expr .now) (s .args .table .now)) u (omega (arith, s .pre .1 .2)))))
+    (omega (arith, s .pre .0, counted (ends (s .args .codes .now) (s .args .starts .now) (s .args .lens .now) (s .args .values .now) (s .args .n .0)) (counts (s .args .expr .now) (s .args .table .now)) u (omega (arith, s .pre .1 .2))), (record { sound = s .pre .1 .0 .sound; few = s .pre .1 .0 .few; within = omega (arith, counted (ends (s .args .codes .now) (s .args .starts .now) (s .args .lens .now) (s .args .values .now) (s .args .n .0)) (counts (s .args .expr .now) (s .args .table .now)) u (omega (arith, s .pre .1 .2))) }, omega (arith, s .pre .1 .1, c .before .before .before .before .if1 .left), omega (arith, s .pre .1 .2, s .pre .1 .1), omega (arith, counted (ends (s .args .codes .now) (s .args .starts .now) (s .args .lens .now) (s .args .values .now) (s .args .n .0)) (counts (s .args .expr .now) (s .args .table .now)) u (omega (arith, s .pre .1 .2)))))
 
 level-returns-2 : (t : ℕ) → level-lts.Need-returns-2 (level-claims t) (level-at t) level.Post
 level-returns-2 t c =
     let s = c .before .before .before .before .before .before .before in
-    level-bad (ends (s .args .codes .now) (s .args .starts .now) (s .args .lens .now) (s .args .values .now) (s .args .n)) (s .args .i) (s .args .k - 1) (s .args .k) (omega (arith, s .pre .1 .1, c .before .before .before .before .if1 .left)) (omega (arith, s .pre .1 .1)) _ (rw (c .before .e .given .1) at (c .before .before .before .level .ensures))
+    level-bad (ends (s .args .codes .now) (s .args .starts .now) (s .args .lens .now) (s .args .values .now) (s .args .n .0)) (s .args .i .0) (s .args .k - 1) (s .args .k) (omega (arith, s .pre .1 .1, c .before .before .before .before .if1 .left)) (omega (arith, s .pre .1 .1)) _ (rw (c .before .e .given .1) at (c .before .before .before .level .ensures))
 
 level-returns-3 : (t : ℕ) → level-lts.Need-returns-3 (level-claims t) (level-at t) level.Post
 level-returns-3 t c =
     let s = c .before .before .before .before .before .before .before .before in
     let u = rw (c .before .before .a .given .1) at (c .before .before .before .before .level .ensures) in
-    level-made (ends (s .args .codes .now) (s .args .starts .now) (s .args .lens .now) (s .args .values .now) (s .args .n)) (s .args .i) (s .args .k - 1) (s .args .k) (omega (arith, s .pre .1 .1, c .before .before .before .before .before .if1 .left)) (omega (arith, s .pre .1 .1)) (omega (arith, s .pre .1 .1, s .pre .1 .2)) (known (s .args .expr .now) (s .args .table .now) (c .before .before .a .given .0 .0)) (c .before .before .a .given .0 .1 .0 .0) u _ (c .tail .ensures)
+    level-made (ends (s .args .codes .now) (s .args .starts .now) (s .args .lens .now) (s .args .values .now) (s .args .n .0)) (s .args .i .0) (s .args .k - 1) (s .args .k) (omega (arith, s .pre .1 .1, c .before .before .before .before .before .if1 .left)) (omega (arith, s .pre .1 .1)) (omega (arith, s .pre .1 .1, s .pre .1 .2)) (known (s .args .expr .now) (s .args .table .now) (c .before .before .a .given .0 .0)) (c .before .before .a .given .0 .1 .0 .0) u _ (c .tail .ensures)
 
 primary-code-at-requires : (t : ℕ) → primary-lts.Need-code-at-requires (primary-claims t) (primary-at t) primary.Post
 primary-code-at-requires t c κs =
@@ -282,40 +282,40 @@ primary-token-at-requires : (t : ℕ) → primary-lts.Need-token-at-requires (pr
 primary-token-at-requires t c κs =
     let s = c .before .before .before .before .before in
     let e = ap isPrimary (sym (c .before .before .code-at .ensures)) ∙ sym (c .before .is-primary .ensures) ∙ c .if1 .taken in
-    (s .pre .1 .few, primary-inside (ends (s .args .codes .now) (s .args .starts .now) (s .args .lens .now) (s .args .values .now) (s .args .n)) (s .args .i) e)
+    (s .pre .1 .few, primary-inside (ends (s .args .codes .now) (s .args .starts .now) (s .args .lens .now) (s .args .values .now) (s .args .n .0)) (s .args .i .0) e)
 
 primary-of-primary-requires : (t : ℕ) → primary-lts.Need-of-primary-requires (primary-claims t) (primary-at t) primary.Post
 primary-of-primary-requires t c κs =
     let s = c .before .before .before .before .before .before in
     s .pre .1 .sound
 
-primary-add-t17 : (t : ℕ) → primary-lts.Need-add-t17 (primary-claims t) (primary-at t) primary.Post
-primary-add-t17 t c =
-    let s = c .before .before .before .before .before .before .before in
+primary-add-t16 : (t : ℕ) → primary-lts.Need-add-t16 (primary-claims t) (primary-at t) primary.Post
+primary-add-t16 t c =
+    let s = c .before .before .before .before .before .before .before .before in
     omega (arith, s .pre .1 .within, s .pre .1 .few)
 
 primary-returns : (t : ℕ) → primary-lts.Need-returns (primary-claims t) (primary-at t) primary.Post
 primary-returns t c =
-    let s = c .before .before .before .before .before .before .before in
-    let e = ap isPrimary (sym (c .before .before .before .before .code-at .ensures)) ∙ sym (c .before .before .before .is-primary .ensures) ∙ c .before .before .if1 .taken in
-    rw (c .of-primary .ensures, c .before .token-at .ensures) (primary-leaf (ends (s .args .codes .now) (s .args .starts .now) (s .args .lens .now) (s .args .values .now) (s .args .n)) (s .args .i) e)
+    let s = c .before .before .before .before .before .before .before .before in
+    let e = ap isPrimary (sym (c .before .before .before .before .before .code-at .ensures)) ∙ sym (c .before .before .before .before .is-primary .ensures) ∙ c .before .before .before .if1 .taken in
+    rw (c .before .of-primary .ensures, c .before .before .token-at .ensures) (primary-leaf (ends (s .args .codes .now) (s .args .starts .now) (s .args .lens .now) (s .args .values .now) (s .args .n .0)) (s .args .i .0) e)
 
 primary-returns-2 : (t : ℕ) → primary-lts.Need-returns-2 (primary-claims t) (primary-at t) primary.Post
 primary-returns-2 t c =
     let s = c .before .before .before .before .before .before in
     let e = ap isPrimary (sym (c .before .before .before .code-at .ensures)) ∙ sym (c .before .before .is-primary .ensures) ∙ c .before .if1 .left in
-    primary-none (ends (s .args .codes .now) (s .args .starts .now) (s .args .lens .now) (s .args .values .now) (s .args .n)) (s .args .i) e (λ z. c .if2 .taken (c .before .before .before .code-at .ensures ∙ z))
+    primary-none (ends (s .args .codes .now) (s .args .starts .now) (s .args .lens .now) (s .args .values .now) (s .args .n .0)) (s .args .i .0) e (λ z. c .if2 .taken (c .before .before .before .code-at .ensures ∙ z))
 
-primary-add-expression : (t : ℕ) → primary-lts.Need-add-expression (primary-claims t) (primary-at t) primary.Post
-primary-add-expression t c =
-    let s = c .before .before .before .before .before .before in
+primary-add-t20 : (t : ℕ) → primary-lts.Need-add-t20 (primary-claims t) (primary-at t) primary.Post
+primary-add-t20 t c =
+    let s = c .before .before .before .before .before .before .before in
     omega (arith, s .pre .1 .within, s .pre .1 .few)
 
 primary-expression-requires : (t : ℕ) → primary-lts.Need-expression-requires (primary-claims t) (primary-at t) primary.Post
 primary-expression-requires t c κs =
-    let s = c .before .before .before .before .before .before in
-    let o = sym (c .before .before .before .code-at .ensures) ∙ c .if2 .left in
-    (omega (arith, s .pre .0, code-inside (ends (s .args .codes .now) (s .args .starts .now) (s .args .lens .now) (s .args .values .now) (s .args .n)) (s .args .i) 10 (omega arith) o), record { sound = s .pre .1 .sound; few = s .pre .1 .few; within = omega (arith, code-inside (ends (s .args .codes .now) (s .args .starts .now) (s .args .lens .now) (s .args .values .now) (s .args .n)) (s .args .i) 10 (omega arith) o) })
+    let s = c .before .before .before .before .before .before .before in
+    let o = sym (c .before .before .before .before .code-at .ensures) ∙ c .before .if2 .left in
+    (omega (arith, s .pre .0, code-inside (ends (s .args .codes .now) (s .args .starts .now) (s .args .lens .now) (s .args .values .now) (s .args .n .0)) (s .args .i .0) 10 (omega arith) o), record { sound = s .pre .1 .sound; few = s .pre .1 .few; within = omega (arith, code-inside (ends (s .args .codes .now) (s .args .starts .now) (s .args .lens .now) (s .args .values .now) (s .args .n .0)) (s .args .i .0) 10 (omega arith) o) })
 
 primary-enum-known-e : (t : ℕ) → primary-lts.Need-enum-known-e (primary-claims t) (primary-at t) primary.Post
 primary-enum-known-e t c =
@@ -327,34 +327,34 @@ primary-enum-known-a t c =
 
 primary-code-at-requires-2 : (t : ℕ) → primary-lts.Need-code-at-requires-2 (primary-claims t) (primary-at t) primary.Post
 primary-code-at-requires-2 t c κs =
-    let s = c .before .before .before .before .before .before .before .before .before .before in
+    let s = c .before .before .before .before .before .before .before .before .before .before .before in
     s .pre .1 .few
 
 primary-returns-3 : (t : ℕ) → primary-lts.Need-returns-3 (primary-claims t) (primary-at t) primary.Post
 primary-returns-3 t c =
-    let s = c .before .before .before .before .before .before .before .before .before .before .before .before in
-    let o = sym (c .before .before .before .before .before .before .before .before .before .code-at .ensures) ∙ c .before .before .before .before .before .before .if2 .left in
+    let s = c .before .before .before .before .before .before .before .before .before .before .before .before .before in
+    let o = sym (c .before .before .before .before .before .before .before .before .before .before .code-at .ensures) ∙ c .before .before .before .before .before .before .before .if2 .left in
     let u = rw (c .before .before .before .a .given .1) at (c .before .before .before .before .before .expression .ensures) in
-    parentheses-open (ends (s .args .codes .now) (s .args .starts .now) (s .args .lens .now) (s .args .values .now) (s .args .n)) (s .args .i) o (known (s .args .expr .now) (s .args .table .now) (c .before .before .before .a .given .0 .0)) (c .before .before .before .a .given .0 .1 .0 .0) u (λ z. c .if3 .taken (c .before .code-at2 .ensures ∙ z))
+    parentheses-open (ends (s .args .codes .now) (s .args .starts .now) (s .args .lens .now) (s .args .values .now) (s .args .n .0)) (s .args .i .0) o (known (s .args .expr .now) (s .args .table .now) (c .before .before .before .a .given .0 .0)) (c .before .before .before .a .given .0 .1 .0 .0) u (λ z. c .if3 .taken (c .before .code-at2 .ensures ∙ z))
 
-primary-add-t26 : (t : ℕ) → primary-lts.Need-add-t26 (primary-claims t) (primary-at t) primary.Post
-primary-add-t26 t c =
-    let s = c .before .before .before .before .before .before .before .before .before .before .before .before in
-    let u = rw (c .before .before .before .a .given .1) at (c .before .before .before .before .before .expression .ensures) in
-    omega (arith, moved (ends (s .args .codes .now) (s .args .starts .now) (s .args .lens .now) (s .args .values .now) (s .args .n)) u tt, s .pre .1 .few)
+primary-add-t25 : (t : ℕ) → primary-lts.Need-add-t25 (primary-claims t) (primary-at t) primary.Post
+primary-add-t25 t c =
+    let s = c .before .before .before .before .before .before .before .before .before .before .before .before .before .before in
+    let u = rw (c .before .before .before .before .a .given .1) at (c .before .before .before .before .before .before .expression .ensures) in
+    omega (arith, moved (ends (s .args .codes .now) (s .args .starts .now) (s .args .lens .now) (s .args .values .now) (s .args .n .0)) u tt, s .pre .1 .few)
 
 primary-returns-4 : (t : ℕ) → primary-lts.Need-returns-4 (primary-claims t) (primary-at t) primary.Post
 primary-returns-4 t c =
-    let s = c .before .before .before .before .before .before .before .before .before .before in
-    let o = sym (c .before .before .before .before .before .before .before .code-at .ensures) ∙ c .before .before .before .before .if2 .left in
-    parentheses-bad (ends (s .args .codes .now) (s .args .starts .now) (s .args .lens .now) (s .args .values .now) (s .args .n)) (s .args .i) o _ (rw (c .before .e .given .1) at (c .before .before .before .expression .ensures))
+    let s = c .before .before .before .before .before .before .before .before .before .before .before in
+    let o = sym (c .before .before .before .before .before .before .before .before .code-at .ensures) ∙ c .before .before .before .before .before .if2 .left in
+    parentheses-bad (ends (s .args .codes .now) (s .args .starts .now) (s .args .lens .now) (s .args .values .now) (s .args .n .0)) (s .args .i .0) o _ (rw (c .before .e .given .1) at (c .before .before .before .expression .ensures))
 
 primary-returns-5 : (t : ℕ) → primary-lts.Need-returns-5 (primary-claims t) (primary-at t) primary.Post
 primary-returns-5 t c =
-    let s = c .before .before .before .before .before .before .before .before .before .before .before .before in
-    let o = sym (c .before .before .before .before .before .before .before .before .before .code-at .ensures) ∙ c .before .before .before .before .before .before .if2 .left in
-    let u = rw (c .before .before .before .a .given .1) at (c .before .before .before .before .before .expression .ensures) in
-    parentheses-closed (ends (s .args .codes .now) (s .args .starts .now) (s .args .lens .now) (s .args .values .now) (s .args .n)) (s .args .i) o (known (s .args .expr .now) (s .args .table .now) (c .before .before .before .a .given .0 .0)) (c .before .before .before .a .given .0 .1 .0 .0) u (sym (c .before .code-at2 .ensures) ∙ c .if3 .left)
+    let s = c .before .before .before .before .before .before .before .before .before .before .before .before .before .before in
+    let o = sym (c .before .before .before .before .before .before .before .before .before .before .before .code-at .ensures) ∙ c .before .before .before .before .before .before .before .before .if2 .left in
+    let u = rw (c .before .before .before .before .a .given .1) at (c .before .before .before .before .before .before .expression .ensures) in
+    parentheses-closed (ends (s .args .codes .now) (s .args .starts .now) (s .args .lens .now) (s .args .values .now) (s .args .n .0)) (s .args .i .0) o (known (s .args .expr .now) (s .args .table .now) (c .before .before .before .before .a .given .0 .0)) (c .before .before .before .before .a .given .0 .1 .0 .0) u (sym (c .before .before .code-at2 .ensures) ∙ c .before .if3 .left)
 
 tail-code-at-requires : (t : ℕ) → tail-lts.Need-code-at-requires (tail-claims t) (tail-at t) tail.Post
 tail-code-at-requires t c κs =
@@ -377,18 +377,18 @@ tail-add-if1 t c =
 tail-returns : (t : ℕ) → tail-lts.Need-returns (tail-claims t) (tail-at t) tail.Post
 tail-returns t c =
     let s = c .before .before .before .before .before in
-    extend-done (ends (s .args .codes .now) (s .args .starts .now) (s .args .lens .now) (s .args .values .now) (s .args .n)) (s .args .j) (s .args .k) (known (s .args .expr .now) (s .args .table .now) (s .args .a)) (λ z. c .if1 .taken (c .before .level-of .ensures ∙ ap levelOf (c .before .before .code-at .ensures) ∙ z ∙ sym (add-one (s .args .k))))
+    extend-done (ends (s .args .codes .now) (s .args .starts .now) (s .args .lens .now) (s .args .values .now) (s .args .n .0)) (s .args .j .0) (s .args .k) (known (s .args .expr .now) (s .args .table .now) (s .args .a)) (λ z. c .if1 .taken (c .before .level-of .ensures ∙ ap levelOf (c .before .before .code-at .ensures) ∙ z ∙ sym (add-one (s .args .k))))
 
-tail-add-level : (t : ℕ) → tail-lts.Need-add-level (tail-claims t) (tail-at t) tail.Post
-tail-add-level t c =
-    let s = c .before .before .before .before .before in
+tail-add-t17 : (t : ℕ) → tail-lts.Need-add-t17 (tail-claims t) (tail-at t) tail.Post
+tail-add-t17 t c =
+    let s = c .before .before .before .before .before .before in
     omega (arith, s .pre .1 .0 .within, s .pre .1 .0 .few)
 
 tail-level-requires : (t : ℕ) → tail-lts.Need-level-requires (tail-claims t) (tail-at t) tail.Post
 tail-level-requires t c κs =
-    let s = c .before .before .before .before .before in
-    let e = ap levelOf (sym (c .before .before .code-at .ensures)) ∙ sym (c .before .level-of .ensures) ∙ c .if1 .left ∙ add-one (s .args .k) in
-    (omega (arith, s .pre .0, s .pre .1 .2, level-inside (ends (s .args .codes .now) (s .args .starts .now) (s .args .lens .now) (s .args .values .now) (s .args .n)) (s .args .j) (s .args .k) (s .pre .1 .2) e), (record { sound = s .pre .1 .0 .sound; few = s .pre .1 .0 .few; within = omega (arith, level-inside (ends (s .args .codes .now) (s .args .starts .now) (s .args .lens .now) (s .args .values .now) (s .args .n)) (s .args .j) (s .args .k) (s .pre .1 .2) e) }, s .pre .1 .1, omega (arith, s .pre .1 .2)))
+    let s = c .before .before .before .before .before .before in
+    let e = ap levelOf (sym (c .before .before .before .code-at .ensures)) ∙ sym (c .before .before .level-of .ensures) ∙ c .before .if1 .left ∙ add-one (s .args .k) in
+    (omega (arith, s .pre .0, s .pre .1 .2, level-inside (ends (s .args .codes .now) (s .args .starts .now) (s .args .lens .now) (s .args .values .now) (s .args .n .0)) (s .args .j .0) (s .args .k) (s .pre .1 .2) e), (record { sound = s .pre .1 .0 .sound; few = s .pre .1 .0 .few; within = omega (arith, level-inside (ends (s .args .codes .now) (s .args .starts .now) (s .args .lens .now) (s .args .values .now) (s .args .n .0)) (s .args .j .0) (s .args .k) (s .pre .1 .2) e) }, s .pre .1 .1, omega (arith, s .pre .1 .2)))
 
 tail-enum-known-e : (t : ℕ) → tail-lts.Need-enum-known-e (tail-claims t) (tail-at t) tail.Post
 tail-enum-known-e t c =
@@ -400,29 +400,29 @@ tail-enum-known-b t c =
 
 tail-of-binary-requires : (t : ℕ) → tail-lts.Need-of-binary-requires (tail-claims t) (tail-at t) tail.Post
 tail-of-binary-requires t c κs =
-    let s = c .before .before .before .before .before .before .before .before .before in
+    let s = c .before .before .before .before .before .before .before .before .before .before in
     let u = rw (c .before .b .given .1) at (c .before .before .before .level .ensures) in
-    omega (arith, counted (ends (s .args .codes .now) (s .args .starts .now) (s .args .lens .now) (s .args .values .now) (s .args .n)) (counts (s .args .expr .now) (s .args .table .now)) u (omega (arith, s .pre .1 .2)), s .pre .1 .3, s .pre .1 .0 .few)
+    omega (arith, counted (ends (s .args .codes .now) (s .args .starts .now) (s .args .lens .now) (s .args .values .now) (s .args .n .0)) (counts (s .args .expr .now) (s .args .table .now)) u (omega (arith, s .pre .1 .2)), s .pre .1 .3, s .pre .1 .0 .few)
 
 tail-tail-requires : (t : ℕ) → tail-lts.Need-tail-requires (tail-claims t) (tail-at t) tail.Post
 tail-tail-requires t c κs =
-    let s = c .before .before .before .before .before .before .before .before .before .before in
+    let s = c .before .before .before .before .before .before .before .before .before .before .before in
     let u = rw (c .before .before .b .given .1) at (c .before .before .before .before .level .ensures) in
     let z = ap (λ x. x .count) (c .of-binary .ensures) in
-    (omega (arith, s .pre .0, counted (ends (s .args .codes .now) (s .args .starts .now) (s .args .lens .now) (s .args .values .now) (s .args .n)) (counts (s .args .expr .now) (s .args .table .now)) u (omega (arith, s .pre .1 .2))), (record { sound = s .pre .1 .0 .sound; few = s .pre .1 .0 .few; within = omega (arith, counted (ends (s .args .codes .now) (s .args .starts .now) (s .args .lens .now) (s .args .values .now) (s .args .n)) (counts (s .args .expr .now) (s .args .table .now)) u (omega (arith, s .pre .1 .2))) }, s .pre .1 .1, s .pre .1 .2, omega (arith, z, skipped-most (skips (c .before .before .before .before .before .before .before .code-at .result) ((known (s .args .expr .now) (s .args .table .now) (s .args .a)) .value)) ((known (s .args .expr .now) (s .args .table .now) (c .before .before .b .given .0 .0)) .count), counted (ends (s .args .codes .now) (s .args .starts .now) (s .args .lens .now) (s .args .values .now) (s .args .n)) (counts (s .args .expr .now) (s .args .table .now)) u (omega (arith, s .pre .1 .2)), s .pre .1 .3)))
+    (omega (arith, s .pre .0, counted (ends (s .args .codes .now) (s .args .starts .now) (s .args .lens .now) (s .args .values .now) (s .args .n .0)) (counts (s .args .expr .now) (s .args .table .now)) u (omega (arith, s .pre .1 .2))), (record { sound = s .pre .1 .0 .sound; few = s .pre .1 .0 .few; within = omega (arith, counted (ends (s .args .codes .now) (s .args .starts .now) (s .args .lens .now) (s .args .values .now) (s .args .n .0)) (counts (s .args .expr .now) (s .args .table .now)) u (omega (arith, s .pre .1 .2))) }, s .pre .1 .1, s .pre .1 .2, omega (arith, z, skipped-most (skips (c .before .before .before .before .before .before .before .before .code-at .result) ((known (s .args .expr .now) (s .args .table .now) (s .args .a)) .value)) ((known (s .args .expr .now) (s .args .table .now) (c .before .before .b .given .0 .0)) .count), counted (ends (s .args .codes .now) (s .args .starts .now) (s .args .lens .now) (s .args .values .now) (s .args .n .0)) (counts (s .args .expr .now) (s .args .table .now)) u (omega (arith, s .pre .1 .2)), s .pre .1 .3)))
 
 tail-returns-2 : (t : ℕ) → tail-lts.Need-returns-2 (tail-claims t) (tail-at t) tail.Post
 tail-returns-2 t c =
-    let s = c .before .before .before .before .before .before .before .before .before in
-    let e = ap levelOf (sym (c .before .before .before .before .before .before .code-at .ensures)) ∙ sym (c .before .before .before .before .before .level-of .ensures) ∙ c .before .before .before .before .if1 .left ∙ add-one (s .args .k) in
-    extend-bad (ends (s .args .codes .now) (s .args .starts .now) (s .args .lens .now) (s .args .values .now) (s .args .n)) (s .args .j) (s .args .k) (known (s .args .expr .now) (s .args .table .now) (s .args .a)) (s .pre .1 .2) e _ (rw (c .before .e .given .1) at (c .before .before .before .level .ensures))
+    let s = c .before .before .before .before .before .before .before .before .before .before in
+    let e = ap levelOf (sym (c .before .before .before .before .before .before .before .code-at .ensures)) ∙ sym (c .before .before .before .before .before .before .level-of .ensures) ∙ c .before .before .before .before .before .if1 .left ∙ add-one (s .args .k) in
+    extend-bad (ends (s .args .codes .now) (s .args .starts .now) (s .args .lens .now) (s .args .values .now) (s .args .n .0)) (s .args .j .0) (s .args .k) (known (s .args .expr .now) (s .args .table .now) (s .args .a)) (s .pre .1 .2) e _ (rw (c .before .e .given .1) at (c .before .before .before .level .ensures))
 
 tail-returns-3 : (t : ℕ) → tail-lts.Need-returns-3 (tail-claims t) (tail-at t) tail.Post
 tail-returns-3 t c =
-    let s = c .before .before .before .before .before .before .before .before .before .before .before in
-    let e = ap levelOf (sym (c .before .before .before .before .before .before .before .before .code-at .ensures)) ∙ sym (c .before .before .before .before .before .before .before .level-of .ensures) ∙ c .before .before .before .before .before .before .if1 .left ∙ add-one (s .args .k) in
+    let s = c .before .before .before .before .before .before .before .before .before .before .before .before in
+    let e = ap levelOf (sym (c .before .before .before .before .before .before .before .before .before .code-at .ensures)) ∙ sym (c .before .before .before .before .before .before .before .before .level-of .ensures) ∙ c .before .before .before .before .before .before .before .if1 .left ∙ add-one (s .args .k) in
     let u = rw (c .before .before .before .b .given .1) at (c .before .before .before .before .before .level .ensures) in
-    extend-made (ends (s .args .codes .now) (s .args .starts .now) (s .args .lens .now) (s .args .values .now) (s .args .n)) (s .args .j) (s .args .k) (known (s .args .expr .now) (s .args .table .now) (s .args .a)) (s .pre .1 .2) e (known (s .args .expr .now) (s .args .table .now) (c .before .before .before .b .given .0 .0)) (c .before .before .before .b .given .0 .1 .0 .0) u _ (rw (c .before .of-binary .ensures, c .before .before .before .before .before .before .before .before .code-at .ensures) at (c .tail .ensures))
+    extend-made (ends (s .args .codes .now) (s .args .starts .now) (s .args .lens .now) (s .args .values .now) (s .args .n .0)) (s .args .j .0) (s .args .k) (known (s .args .expr .now) (s .args .table .now) (s .args .a)) (s .pre .1 .2) e (known (s .args .expr .now) (s .args .table .now) (c .before .before .before .b .given .0 .0)) (c .before .before .before .b .given .0 .1 .0 .0) u _ (rw (c .before .of-binary .ensures, c .before .before .before .before .before .before .before .before .before .code-at .ensures) at (c .tail .ensures))
 
 unary-code-at-requires : (t : ℕ) → unary-lts.Need-code-at-requires (unary-claims t) (unary-at t) unary.Post
 unary-code-at-requires t c κs =
@@ -442,18 +442,18 @@ unary-returns : (t : ℕ) → unary-lts.Need-returns (unary-claims t) (unary-at 
 unary-returns t c =
     let s = c .before .before .before .before .before .before in
     let e = ap isUnary (sym (c .before .before .before .code-at .ensures)) ∙ sym (c .before .before .is-unary .ensures) ∙ not-true (c .before .before .is-unary .result) (c .before .if1 .taken) in
-    unary-none (ends (s .args .codes .now) (s .args .starts .now) (s .args .lens .now) (s .args .values .now) (s .args .n)) (s .args .i) e _ (c .primary .ensures)
+    unary-none (ends (s .args .codes .now) (s .args .starts .now) (s .args .lens .now) (s .args .values .now) (s .args .n .0)) (s .args .i .0) e _ (c .primary .ensures)
 
-unary-add-unary : (t : ℕ) → unary-lts.Need-add-unary (unary-claims t) (unary-at t) unary.Post
-unary-add-unary t c =
-    let s = c .before .before .before .before .before in
+unary-add-t17 : (t : ℕ) → unary-lts.Need-add-t17 (unary-claims t) (unary-at t) unary.Post
+unary-add-t17 t c =
+    let s = c .before .before .before .before .before .before in
     omega (arith, s .pre .1 .within, s .pre .1 .few)
 
 unary-unary-requires : (t : ℕ) → unary-lts.Need-unary-requires (unary-claims t) (unary-at t) unary.Post
 unary-unary-requires t c κs =
-    let s = c .before .before .before .before .before in
-    let e = ap isUnary (sym (c .before .before .code-at .ensures)) ∙ sym (c .before .is-unary .ensures) ∙ not-false (c .before .is-unary .result) (c .if1 .left) in
-    (omega (arith, s .pre .0, unary-inside (ends (s .args .codes .now) (s .args .starts .now) (s .args .lens .now) (s .args .values .now) (s .args .n)) (s .args .i) e), record { sound = s .pre .1 .sound; few = s .pre .1 .few; within = omega (arith, unary-inside (ends (s .args .codes .now) (s .args .starts .now) (s .args .lens .now) (s .args .values .now) (s .args .n)) (s .args .i) e) })
+    let s = c .before .before .before .before .before .before in
+    let e = ap isUnary (sym (c .before .before .before .code-at .ensures)) ∙ sym (c .before .before .is-unary .ensures) ∙ not-false (c .before .before .is-unary .result) (c .before .if1 .left) in
+    (omega (arith, s .pre .0, unary-inside (ends (s .args .codes .now) (s .args .starts .now) (s .args .lens .now) (s .args .values .now) (s .args .n .0)) (s .args .i .0) e), record { sound = s .pre .1 .sound; few = s .pre .1 .few; within = omega (arith, unary-inside (ends (s .args .codes .now) (s .args .starts .now) (s .args .lens .now) (s .args .values .now) (s .args .n .0)) (s .args .i .0) e) })
 
 unary-enum-known-e : (t : ℕ) → unary-lts.Need-enum-known-e (unary-claims t) (unary-at t) unary.Post
 unary-enum-known-e t c =
@@ -465,22 +465,22 @@ unary-enum-known-a t c =
 
 unary-of-unary-requires : (t : ℕ) → unary-lts.Need-of-unary-requires (unary-claims t) (unary-at t) unary.Post
 unary-of-unary-requires t c κs =
-    let s = c .before .before .before .before .before .before .before .before .before in
+    let s = c .before .before .before .before .before .before .before .before .before .before in
     let u = rw (c .before .a .given .1) at (c .before .before .before .unary .ensures) in
-    omega (arith, counted (ends (s .args .codes .now) (s .args .starts .now) (s .args .lens .now) (s .args .values .now) (s .args .n)) (counts (s .args .expr .now) (s .args .table .now)) u (omega arith), s .pre .1 .few)
+    omega (arith, counted (ends (s .args .codes .now) (s .args .starts .now) (s .args .lens .now) (s .args .values .now) (s .args .n .0)) (counts (s .args .expr .now) (s .args .table .now)) u (omega arith), s .pre .1 .few)
 
 unary-returns-2 : (t : ℕ) → unary-lts.Need-returns-2 (unary-claims t) (unary-at t) unary.Post
 unary-returns-2 t c =
-    let s = c .before .before .before .before .before .before .before .before .before in
-    let e = ap isUnary (sym (c .before .before .before .before .before .before .code-at .ensures)) ∙ sym (c .before .before .before .before .before .is-unary .ensures) ∙ not-false (c .before .before .before .before .before .is-unary .result) (c .before .before .before .before .if1 .left) in
-    unary-bad (ends (s .args .codes .now) (s .args .starts .now) (s .args .lens .now) (s .args .values .now) (s .args .n)) (s .args .i) e _ (rw (c .before .e .given .1) at (c .before .before .before .unary .ensures))
+    let s = c .before .before .before .before .before .before .before .before .before .before in
+    let e = ap isUnary (sym (c .before .before .before .before .before .before .before .code-at .ensures)) ∙ sym (c .before .before .before .before .before .before .is-unary .ensures) ∙ not-false (c .before .before .before .before .before .before .is-unary .result) (c .before .before .before .before .before .if1 .left) in
+    unary-bad (ends (s .args .codes .now) (s .args .starts .now) (s .args .lens .now) (s .args .values .now) (s .args .n .0)) (s .args .i .0) e _ (rw (c .before .e .given .1) at (c .before .before .before .unary .ensures))
 
 unary-returns-3 : (t : ℕ) → unary-lts.Need-returns-3 (unary-claims t) (unary-at t) unary.Post
 unary-returns-3 t c =
-    let s = c .before .before .before .before .before .before .before .before .before .before in
-    let e = ap isUnary (sym (c .before .before .before .before .before .before .before .code-at .ensures)) ∙ sym (c .before .before .before .before .before .before .is-unary .ensures) ∙ not-false (c .before .before .before .before .before .before .is-unary .result) (c .before .before .before .before .before .if1 .left) in
+    let s = c .before .before .before .before .before .before .before .before .before .before .before in
+    let e = ap isUnary (sym (c .before .before .before .before .before .before .before .before .code-at .ensures)) ∙ sym (c .before .before .before .before .before .before .before .is-unary .ensures) ∙ not-false (c .before .before .before .before .before .before .before .is-unary .result) (c .before .before .before .before .before .before .if1 .left) in
     let u = rw (c .before .before .a .given .1) at (c .before .before .before .before .unary .ensures) in
-    rw (c .of-unary .ensures (s .args .expr .now) (s .args .table .now), c .before .before .before .before .before .before .before .code-at .ensures) (unary-made (ends (s .args .codes .now) (s .args .starts .now) (s .args .lens .now) (s .args .values .now) (s .args .n)) (s .args .i) e (known (s .args .expr .now) (s .args .table .now) (c .before .before .a .given .0 .0)) _ u)
+    rw (c .of-unary .ensures (s .args .expr .now) (s .args .table .now), c .before .before .before .before .before .before .before .before .code-at .ensures) (unary-made (ends (s .args .codes .now) (s .args .starts .now) (s .args .lens .now) (s .args .values .now) (s .args .n .0)) (s .args .i .0) e (known (s .args .expr .now) (s .args .table .now) (c .before .before .a .given .0 .0)) _ u)
 
 pub +expression+level+primary+tail+unary-spec : {M : Type 1} → statement M
 +expression+level+primary+tail+unary-spec =
@@ -492,13 +492,13 @@ pub +expression+level+primary+tail+unary-spec : {M : Type 1} → statement M
     (expression-enum-known-c t)
     (expression-code-at-requires t)
     (expression-returns t)
-    (expression-add-expression t)
+    (expression-add-t24 t)
     (expression-expression-requires t)
     (expression-enum-known-e-2 t)
     (expression-enum-known-a t)
     (expression-code-at-requires-2 t)
     (expression-returns-2 t)
-    (expression-add-expression-2 t)
+    (expression-add-t30 t)
     (expression-expression-requires-2 t)
     (expression-enum-known-e-3 t)
     (expression-enum-known-b t)
@@ -526,16 +526,16 @@ pub +expression+level+primary+tail+unary-spec : {M : Type 1} → statement M
     (primary-is-primary-requires t)
     (primary-token-at-requires t)
     (primary-of-primary-requires t)
-    (primary-add-t17 t)
+    (primary-add-t16 t)
     (primary-returns t)
     (primary-returns-2 t)
-    (primary-add-expression t)
+    (primary-add-t20 t)
     (primary-expression-requires t)
     (primary-enum-known-e t)
     (primary-enum-known-a t)
     (primary-code-at-requires-2 t)
     (primary-returns-3 t)
-    (primary-add-t26 t)
+    (primary-add-t25 t)
     (primary-returns-4 t)
     (primary-returns-5 t))
     (λ t. tail-lts.spec (tail-claims t)
@@ -546,7 +546,7 @@ pub +expression+level+primary+tail+unary-spec : {M : Type 1} → statement M
     (tail-cast-if1 t)
     (tail-add-if1 t)
     (tail-returns t)
-    (tail-add-level t)
+    (tail-add-t17 t)
     (tail-level-requires t)
     (tail-enum-known-e t)
     (tail-enum-known-b t)
@@ -561,7 +561,7 @@ pub +expression+level+primary+tail+unary-spec : {M : Type 1} → statement M
     (unary-is-unary-requires t)
     (unary-primary-requires t)
     (unary-returns t)
-    (unary-add-unary t)
+    (unary-add-t17 t)
     (unary-unary-requires t)
     (unary-enum-known-e t)
     (unary-enum-known-a t)
