@@ -1,6 +1,6 @@
 -- The promises of specs/Answers.antt. The grammar's parser decides what derives and makes what the tree folds to; what is added here is
 -- that no later refusal is 7, since where kinds suit evaluation meets 11 and 12 alone.
-use Prim.Native.Nat.{ℕ, _<_}
+use Prim.Native.Nat.{ℕ}
 use native.Mathlib.Omega.{arith}
 use mathlib.Core.Path.{_≡_, refl, sym, ap, _∙_}
 use mathlib.Core.Logic.{_↔_, _⊎_, inl, inr, ⊎-elim}
@@ -66,25 +66,30 @@ judged-not-7 bar a h =
     (λ c. finished-not-7 (a .kind) (a .value) (a .count) (h (alive (a .kind) c)))))
 
 -- what a value tells of the attributes that gave it
+pub record Told (v : Value) (n : ℕ) (a : Attributes) : Type 0 where
+  pub kind : kindOf v ≡ a .kind
+  pub count : n ≡ a .count
+  pub value : v ≡ a .value
+
 module _ (v : Value) (n : ℕ) where
   abbrev Tells : Attributes → Evaluation → Type 0
-  Tells a x = x ≡ value v n → (kindOf v ≡ a .kind) × (n ≡ a .count)
+  Tells a x = x ≡ value v n → Told v n a
 
   never : (r : Refusal) → refused r ≡ value v n → ⊥
   never r e = let z : _≡_ {A = ℕ} 0 1 = cc in omega arith
 
-  finished-tells : (a : Attributes) (w : Value) → Suits (a .kind) w → Tells a (finished w (a .count))
-  finished-tells a (number x) h e = let w : v ≡ number x = cc in (ap kindOf w ∙ sym h, (cc))
-  finished-tells a (string p s) h e = let w : v ≡ string p s = cc in (ap kindOf w ∙ sym h, (cc))
-  finished-tells a (wide p s) h e = let w : v ≡ wide p s = cc in (ap kindOf w ∙ sym h, (cc))
-  finished-tells a (fault r) h e = absurd (never (refusal r) e)
+  finished-tells : (a : Attributes) (w : Value) → a .value ≡ w → Suits (a .kind) w → Tells a (finished w (a .count))
+  finished-tells a (number x) g h e = let w : v ≡ number x = cc in record { kind = ap kindOf w ∙ sym h; count = cc; value = cc }
+  finished-tells a (string p s) g h e = let w : v ≡ string p s = cc in record { kind = ap kindOf w ∙ sym h; count = cc; value = cc }
+  finished-tells a (wide p s) g h e = let w : v ≡ wide p s = cc in record { kind = ap kindOf w ∙ sym h; count = cc; value = cc }
+  finished-tells a (fault r) g h e = absurd (never (refusal r) e)
 
   judged-tells : (bar : Bool) (a : Attributes) → Settles a → Tells a (judged bar a)
   judged-tells bar a h =
       pick-case (Tells a) bar (λ _ e. absurd (never _ e))
       (λ _. pick-case (Tells a) (a .missing) (λ _ e. absurd (never _ e))
       (λ _. pick-case (Tells a) (clashes (a .kind)) (λ _ e. absurd (never _ e))
-      (λ c. finished-tells a (a .value) (h (alive (a .kind) c)))))
+      (λ c. finished-tells a (a .value) refl (h (alive (a .kind) c)))))
 
 module _ (e t : List ℕ) where
   tokens-read : Reads codeOf (reading e .tokens) (tokenIn (reading e .tokens))
@@ -117,25 +122,33 @@ module _ (e t : List ℕ) where
           underived = (none, refused-7);
           derived = derived;
           settles = settles e t;
-          settled = λ s d v n h. judged-tells v n (bare codeOf d) (fold (meaning e t) s) (settles e t s) (sym (derived s d) ∙ h) .0;
+          settled = λ s d v n h. judged-tells v n (bare codeOf d) (fold (meaning e t) s) (settles e t s) (sym (derived s d) ∙ h) .kind;
         }
 
-  -- an answer to tokens, by what the parser found
-  few : (o : Outcome Attributes) → parse codeOf (meaning e t) (tokenIn (reading e .tokens)) (length (reading e .tokens)) ≡ o
-      → (v : Value) (n : ℕ) → concluded (codesOf (reading e .tokens)) o ≡ value v n → n < length (reading e .tokens)
-  few (underived i) p v n h = absurd (never v n _ h)
-  few (accepted a) p v n h =
+  -- a value is that of a tree that the tokens derive
+  abbrev FromTree : (v : Value) (n : ℕ) → Type 0
+  FromTree v n = (s : Tree Token) × Derives codeOf expression (reading e .tokens) s × Told v n (fold (meaning e t) s)
+
+  -- by what the parser found
+  by-outcome : (o : Outcome Attributes) → parse codeOf (meaning e t) (tokenIn (reading e .tokens)) (length (reading e .tokens)) ≡ o
+      → (v : Value) (n : ℕ) → concluded (codesOf (reading e .tokens)) o ≡ value v n → FromTree v n
+  by-outcome (underived i) p v n h = absurd (never v n _ h)
+  by-outcome (accepted a) p v n h =
       let r = evaluates tokens-read (meaning e t) .accepted-exactly a .0 p in
       let s : Tree Token = r .0 in
       let k : judged (barOutside 0 (codesOf (reading e .tokens))) (fold (meaning e t) s) ≡ value v n = rw (← r .2) h in
-      let c = judged-tells v n (barOutside 0 (codesOf (reading e .tokens))) (fold (meaning e t) s) (settles e t s) k .1 in
-      omega (arith, c, bounded codeOf (meaning e t) (λ a. a .count) (counts e t) (reading e .tokens) s (r .1))
+      (s, r .1, judged-tells v n (barOutside 0 (codesOf (reading e .tokens))) (fold (meaning e t) s) (settles e t s) k)
 
-  pub counted : Counted e t
+  pub from-tree : (v : Value) (n : ℕ) → evaluation e t ≡ value v n → FromTree v n
   unfolding evaluation inSoundTable ofTokens
-  counted v n = by (wellFormed t) (reading e .ending)
+  from-tree v n = by (wellFormed t) (reading e .ending)
     where
-      by : (b : Bool) (y : Ending) → pick b (ended y (ofTokens e t (reading e .tokens))) (refusedWith 1) ≡ value v n → n < length (reading e .tokens)
+      by : (b : Bool) (y : Ending) → pick b (ended y (ofTokens e t (reading e .tokens))) (refusedWith 1) ≡ value v n → FromTree v n
       by false y h = absurd (never v n _ h)
       by true (Refused r) h = absurd (never v n _ h)
-      by true Complete h = few (parse codeOf (meaning e t) (tokenIn (reading e .tokens)) (length (reading e .tokens))) refl v n h
+      by true Complete h = by-outcome (parse codeOf (meaning e t) (tokenIn (reading e .tokens)) (length (reading e .tokens))) refl v n h
+
+  pub counted : Counted e t
+  counted v n h =
+      let r = from-tree v n h in
+      omega (arith, r .2 .count, bounded codeOf (meaning e t) (λ a. a .count) (counts e t) (reading e .tokens) (r .0) (r .1))

@@ -1,6 +1,6 @@
 -- What is promised of the answer to an expression e over a table t, in terms of derivations: no promise here speaks of the parser.
--- proofs/Answered.antt has the proofs.
-use Prim.Native.Nat.{ℕ, _<_}
+-- proofs/Answered.antt and proofs/Placed.antt have the proofs.
+use Prim.Native.Nat.{ℕ, _+_, _≤_, _<_}
 use mathlib.Core.Path.{_≡_}
 use mathlib.Core.Logic.{_↔_}
 use mathlib.Core.Bool.{true, false}
@@ -8,13 +8,15 @@ use mathlib.Core.List.{List}
 use lib.ListN.{length}
 use Rattle.units.specs.Refusals.{TABLE-MALFORMED, NO-DERIVATION}
 use Rattle.units.specs.declared.Refusal.{Refusal}
+use Rattle.text.specs.Bytes.{pick}
 use Rattle.settings.specs.Table.{wellFormed}
 use Rattle.token.specs.Tokens.{Token, reading}
 use Rattle.token.specs.declared.scan.Ending.the-variants.{Complete, Refused}
 use Rattle.grammar.specs.Grammar.{Tree, expression, Derives}
 use Rattle.grammar.specs.Fold.{fold}
 use Rattle.grammar.specs.Bars.{bare}
-use Rattle.value.specs.Values.{Value, kindOf}
+use Rattle.value.specs.Values.{Value, number, string, wide, fault, kindOf}
+use Rattle.value.specs.Places.{bytesAt}
 use Rattle.value.specs.Settled.{Settles}
 use Rattle.expression.specs.Meaning.{codeOf, meaning}
 use Rattle.evaluation.specs.Evaluation.{value, refused, refusedWith, judged, evaluation}
@@ -40,3 +42,14 @@ pub record Exact (e t : List ℕ) (sound : wellFormed t ≡ true) (complete : re
 -- with a value, fewer operators were applied than the expression has tokens
 abbrev pub Counted : (e t : List ℕ) → Type 0
 Counted e t = (v : Value) (n : ℕ) → evaluation e t ≡ value v n → n < length (reading e .tokens)
+
+-- a string's bytes are those at its place, and the place lies within the expression or the table
+abbrev pub Stands : (e t : List ℕ) → Value → Type 0
+Stands e t (number x) = Unit
+Stands e t (string p s) = (s ≡ bytesAt e t p) × (p .start .0 + p .len ≤ length (pick (p .tabled) t e))
+Stands e t (wide p s) = (s ≡ bytesAt e t p) × (p .start .0 + p .len ≤ length (pick (p .tabled) t e))
+Stands e t (fault r) = Unit
+
+-- every string that is given stands so
+abbrev pub Placed : (e t : List ℕ) → Type 0
+Placed e t = (v : Value) (n : ℕ) → evaluation e t ≡ value v n → Stands e t v

@@ -8,6 +8,7 @@ pub mod Steps
 pub mod Complete
 pub mod Fusion
 pub mod Counted
+pub mod Preserved
 pub mod Unambiguous
 pub mod Decided
 pub mod Examples
