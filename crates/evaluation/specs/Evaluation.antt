@@ -2,10 +2,12 @@
 -- or a refusal. The order of refusals: 1; 2; 3, 4 and 5 as reading meets them; 6; 7; 8; 9; 10; and last what evaluation itself meets, 11
 -- or 12. The definition computes, so it goes through the parser; Answers.antt says what it amounts to in terms of derivations alone.
 use Prim.Native.Nat.{ℕ}
+use mathlib.Core.Path.{_≡_}
 use mathlib.Core.Bool.{Bool}
 use mathlib.Core.List.{List, []}
 use lib.ListN.{length, getD}
 use lib.Dec.{eqb}
+use denote.Ref.{RefT, now}
 use Rattle.units.specs.Refusals.{TABLE-MALFORMED, NO-DERIVATION, BAR-OUTSIDE, PCD-MISSING, KINDS-UNSUITED, refusal}
 use Rattle.units.specs.declared.Refusal.{Refusal}
 use Rattle.text.specs.Bytes.{pick}
@@ -17,7 +19,7 @@ use Rattle.grammar.specs.Parse.{END, Outcome, refused as underived, accepted, p
 use Rattle.value.specs.Kinds.{kindNumber}
 use Rattle.value.specs.Values.{Value, number, string, wide, fault, kindOf, inExpression}
 use Rattle.value.specs.Attributes.{Attributes}
-use Rattle.value.specs.Places.{bytesAt}
+use Rattle.value.specs.Places.{bytesAt, PartAt}
 use Rattle.value.specs.declared.Place.{Place}
 use Rattle.value.specs.declared.Kind.{Kind}
 use Rattle.value.specs.declared.Kind.the-variants.{Clash}
@@ -135,3 +137,8 @@ textOf (value (string p s) n) = s
 textOf (value (wide p s) n) = s
 textOf (value (fault r) n) = []
 textOf (refused r) = []
+
+-- what is handed back of an answer: the part of the caller's memory at its place, with the string's bytes
+pub record HandsBack (e t : RefT (List ℕ)) (a : Answer) (r : RefT (List ℕ)) : Type 0 where
+  pub part : PartAt e t (placeOf (stated (now e) (now t) a)) r
+  pub bytes : now r ≡ textOf (stated (now e) (now t) a)

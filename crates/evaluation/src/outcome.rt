@@ -4,6 +4,7 @@ use crate::Value;
 use crate::bars;
 use expression::descent;
 use expression::descent::Parsed;
+use text::parts;
 use token::scan;
 use token::scan::Ending;
 use units::TokenNumber;
@@ -21,7 +22,7 @@ ghost use Rattle.grammar.specs.Parse.{parse};
 ghost use Rattle.value.specs.Places.{meant, known};
 ghost use Rattle.expression.specs.Meaning.{codeOf, meaning};
 ghost use Rattle.expression.specs.Descent.{tokenAt};
-ghost use Rattle.evaluation.specs.Evaluation.{refusedWith, finished, clashes as clashesOf, judged, concluded, inSoundTable, evaluation, stated, textOf};
+ghost use Rattle.evaluation.specs.Evaluation.{refusedWith, finished, clashes as clashesOf, judged, concluded, inSoundTable, evaluation, stated, HandsBack};
 
 fn refused(number: u8) -> Answer
     ensures { λ r. ⌜ ((e t : List ℕ) → stated e t r ≡ refusedWith number) ⌝ }
@@ -124,14 +125,14 @@ pub fn evaluate<'a>(expr: &'a [u8], table: &'a [u8]) -> Answer
 
 // The part of the expression or of the table that holds an answer's string; an empty part for a number and for a refusal.
 pub fn string<'a>(expr: &'a [u8], table: &'a [u8], a: Answer) -> &'a [u8]
-    ensures { λ r. ⌜ now r ≡ textOf (stated (now (expr .entry)) (now (table .entry)) a) ⌝ }
+    ensures { λ r. ⌜ HandsBack (expr .entry) (table .entry) a r ⌝ }
 {
     match a {
         Answer::Value(v, _) => match v {
-            Value::Number(_) => &expr[0..0],
+            Value::Number(_) => parts::part(expr, 0, 0),
             Value::String(p) => values::bytes(expr, table, p),
             Value::Wide(p) => values::bytes(expr, table, p),
         },
-        Answer::Refused(_) => &expr[0..0],
+        Answer::Refused(_) => parts::part(expr, 0, 0),
     }
 }

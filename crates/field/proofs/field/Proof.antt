@@ -60,7 +60,7 @@ returns-3 : tie.Need-returns-3
 unfolding fieldOf
 returns-3 c =
     let a = rw (c .before .before .before .before .before .before .before .before .answer2 .given .1, c .before .before .before .before .before .enum-told .given .1) at (c .before .before .before .before .before .before .before .before .before .before .evaluate .ensures) in
-    let z = rw (c .before .before .before .before .before .enum-told .given .1) at (c .before .before .before .string .ensures) in
+    let z = rw (c .before .before .before .before .before .enum-told .given .1) at (c .before .before .before .string .ensures .bytes) in
     rw (← a, ← z) (c .before .before .string2 .ensures)
 
 same-length-3 : tie.Need-same-length-3
@@ -70,7 +70,7 @@ returns-4 : tie.Need-returns-4
 unfolding fieldOf
 returns-4 c =
     let a = rw (c .before .before .before .before .before .before .before .before .answer2 .given .1, c .before .before .before .before .before .enum-told2 .given .1) at (c .before .before .before .before .before .before .before .before .before .before .evaluate .ensures) in
-    let z = rw (c .before .before .before .before .before .enum-told2 .given .1) at (c .before .before .before .string3 .ensures) in
+    let z = rw (c .before .before .before .before .before .enum-told2 .given .1) at (c .before .before .before .string3 .ensures .bytes) in
     rw (← a, ← z) (c .before .before .wide .ensures)
 
 pub field-spec : {M : Type 1} → statement M

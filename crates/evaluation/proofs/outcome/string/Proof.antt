@@ -1,4 +1,5 @@
 -- The variant decides; a part of no bytes has none.
+use Rattle.value.proofs.Parts.{part-bytes}
 use borrow.Author.Needs.{needs}
 use Rattle.evaluation.proofs.outcome.string.Statement.{statement}
 use Rattle.evaluation.proofs.outcome.string.Tie as tie
@@ -9,14 +10,8 @@ enum-known-a c = search needs
 enum-told : tie.Need-enum-told
 enum-told c = search needs
 
-sub-result : tie.Need-sub-result
-sub-result c = search needs
-
-part-result-start : tie.Need-part-result-start
-part-result-start c = search needs
-
-part-result-end : tie.Need-part-result-end
-part-result-end c = search needs
+part-requires : tie.Need-part-requires
+part-requires c κs = search needs
 
 enum-known-v : tie.Need-enum-known-v
 enum-known-v c = search needs
@@ -33,26 +28,26 @@ bytes-requires-2 c κs = search needs
 enum-told-2 : tie.Need-enum-told-2
 enum-told-2 c = search needs
 
-sub-result-2 : tie.Need-sub-result-2
-sub-result-2 c = search needs
-
-part-result-start-2 : tie.Need-part-result-start-2
-part-result-start-2 c = search needs
-
-part-result-end-2 : tie.Need-part-result-end-2
-part-result-end-2 c = search needs
+part-requires-2 : tie.Need-part-requires-2
+part-requires-2 c κs = search needs
 
 returns : tie.Need-returns
-returns c = search needs
+returns c = rw (c .before .before .before .before .a .given .1, c .before .enum-told .given .1) (record { part = c .part .ensures; bytes = c .part .ensures .bytes })
 
 returns-2 : tie.Need-returns-2
-returns-2 c = rw (c .before .before .before .before .before .a .given .1, c .before .before .v .given .1) (c .bytes .ensures)
+returns-2 c =
+    let s = c .before .before .before .before .before .before .before .before .before in
+    let b = part-bytes (s .args .expr) (s .args .table) (c .before .before .v .given .0 .0) (c .bytes .result) (c .bytes .ensures) in
+    rw (c .before .before .before .before .before .a .given .1, c .before .before .v .given .1) (record { part = c .bytes .ensures; bytes = b })
 
 returns-3 : tie.Need-returns-3
-returns-3 c = rw (c .before .before .before .before .before .a .given .1, c .before .before .v2 .given .1) (c .bytes2 .ensures)
+returns-3 c =
+    let s = c .before .before .before .before .before .before .before .before .before in
+    let b = part-bytes (s .args .expr) (s .args .table) (c .before .before .v2 .given .0 .0) (c .bytes2 .result) (c .bytes2 .ensures) in
+    rw (c .before .before .before .before .before .a .given .1, c .before .before .v2 .given .1) (record { part = c .bytes2 .ensures; bytes = b })
 
 returns-4 : tie.Need-returns-4
-returns-4 c = search needs
+returns-4 c = rw (c .before .enum-told2 .given .1) (record { part = c .part2 .ensures; bytes = c .part2 .ensures .bytes })
 
 pub string-spec : {M : Type 1} → statement M
 string-spec =
@@ -60,17 +55,13 @@ string-spec =
     (tie.spec
     enum-known-a
     enum-told
-    sub-result
-    part-result-start
-    part-result-end
+    part-requires
     enum-known-v
     bytes-requires
     enum-known-v-2
     bytes-requires-2
     enum-told-2
-    sub-result-2
-    part-result-start-2
-    part-result-end-2
+    part-requires-2
     returns
     returns-2
     returns-3
