@@ -3,12 +3,13 @@ use Prim.Native.Nat.{ℕ, zero, suc}
 use mathlib.Core.Bool.{Bool, true, false, not, _&&_, _||_}
 use mathlib.Core.List.{List, [], _∷_}
 use lib.Dec.{eqb}
-use Rattle.text.specs.Bytes.{byte, pick, upper, digit, initial, hex, blank}
+use Rattle.text.specs.Bytes.{byte, pick, upper, letter, digit, initial, hex, blank}
 use Rattle.text.specs.declared.runs.Set.{Set}
-use Rattle.text.specs.declared.runs.Set.the-variants.{Blanks, Word, Macro, Decimal, Hex, Inside, Zero, Filled}
+use Rattle.text.specs.declared.runs.Set.the-variants.{Blanks, Word, Macro, Decimal, Hex, Inside, Zero, Filled, Letters, Line}
 
 -- the bytes of each set: blanks; letters, digits and `_`; those of a macro name; decimal and hexadecimal digits; those inside a
--- string in the quote q, which are any but q, CR and LF; the zero byte; every other byte
+-- string in the quote q, which are any but q, CR and LF; the zero byte; every other byte; letters; those of a line, which
+-- are any but LF
 abbrev pub holds : Set → ℕ → Bool
 holds Blanks b = blank b
 holds Word b = initial b || digit b
@@ -18,6 +19,8 @@ holds Hex b = hex b
 holds (Inside q) b = not (eqb b q) && (not (eqb b (byte "\r")) && not (eqb b (byte "\n")))
 holds Zero b = eqb b 0
 holds Filled b = not (eqb b 0)
+holds Letters b = letter b
+holds Line b = not (eqb b (byte "\n"))
 
 -- how many bytes of the set a list begins with
 unfoldable pub span : Set → List ℕ → ℕ

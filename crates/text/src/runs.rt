@@ -19,6 +19,10 @@ pub enum Set {
     Zero,
     // any byte but zero
     Filled,
+    // A to Z and a to z
+    Letters,
+    // any byte but LF
+    Line,
 }
 
 pub fn has(set: Set, b: u8) -> bool
@@ -33,6 +37,8 @@ pub fn has(set: Set, b: u8) -> bool
         Set::Inside(q) => b != q && (b != b'\r' && b != b'\n'),
         Set::Zero => b == 0,
         Set::Filled => b != 0,
+        Set::Letters => bytes::is_letter(b),
+        Set::Line => b != b'\n',
     }
 }
 

@@ -46,6 +46,15 @@ enum-told-6 c = search needs
 enum-told-7 : tie.Need-enum-told-7
 enum-told-7 c = search needs
 
+enum-told-8 : tie.Need-enum-told-8
+enum-told-8 c = search needs
+
+is-letter-requires : tie.Need-is-letter-requires
+is-letter-requires c κs = search needs
+
+enum-told-9 : tie.Need-enum-told-9
+enum-told-9 c = search needs
+
 returns : tie.Need-returns
 returns c = simp (c .before .enum-told .given .1, eq-eqb _ _ (c .if1 .taken))
 
@@ -88,6 +97,12 @@ returns-13 c = rw (c .enum-told6 .given .1)
 returns-14 : tie.Need-returns-14
 returns-14 c = rw (c .enum-told7 .given .1)
 
+returns-15 : tie.Need-returns-15
+returns-15 c = rw (c .before .enum-told8 .given .1) (c .is-letter .ensures)
+
+returns-16 : tie.Need-returns-16
+returns-16 c = rw (c .enum-told9 .given .1)
+
 pub has-spec : {M : Type 1} → statement M
 has-spec =
     tie.close
@@ -106,6 +121,9 @@ has-spec =
     enum-known-set
     enum-told-6
     enum-told-7
+    enum-told-8
+    is-letter-requires
+    enum-told-9
     returns
     returns-2
     returns-3
@@ -119,4 +137,6 @@ has-spec =
     returns-11
     returns-12
     returns-13
-    returns-14)
+    returns-14
+    returns-15
+    returns-16)

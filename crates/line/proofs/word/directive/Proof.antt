@@ -1,0 +1,56 @@
+-- The byte after the blanks decides whether there is a word; the run of letters behind it is the word.
+use native.Mathlib.Omega.{arith}
+use mathlib.Core.Path.{sym, _∙_}
+use Rattle.line.proofs.Words.{bang-inside, plain-line, word-inside, marked-line}
+use borrow.Author.Needs.{needs}
+use Rattle.line.proofs.word.directive.Statement.{statement}
+use Rattle.line.proofs.word.directive.Tie as tie
+
+run-end-requires : tie.Need-run-end-requires
+run-end-requires c κs = search needs
+
+byte-at-requires : tie.Need-byte-at-requires
+byte-at-requires c κs = search needs
+
+returns : tie.Need-returns
+returns c = let l = c .before .before .before .before .args .line .now in
+    sym (plain-line l (c .before .before .run-end .ensures) (λ e. c .if1 .taken (c .before .byte-at .ensures ∙ e)))
+
+add-start : tie.Need-add-start
+add-start c = let l = c .before .before .before .before .args .line .now in
+    omega (arith, bang-inside l (c .before .before .run-end .ensures) (sym (c .before .byte-at .ensures) ∙ c .if1 .left))
+
+run-end-requires-2 : tie.Need-run-end-requires-2
+run-end-requires-2 c κs = search needs
+
+sub-named : tie.Need-sub-named
+sub-named c = search needs
+
+part-named-start : tie.Need-part-named-start
+part-named-start c = search needs
+
+part-named-end : tie.Need-part-named-end
+part-named-end c = let l = c .before .before .before .before .before .args .line .now in
+    word-inside l (c .before .before .before .run-end .ensures) (c .run-end2 .ensures) (bang-inside l (c .before .before .before .run-end .ensures) (sym (c .before .before .byte-at .ensures) ∙ c .before .if1 .left))
+
+named-requires : tie.Need-named-requires
+named-requires c κs = search needs
+
+returns-2 : tie.Need-returns-2
+returns-2 c = let l = c .before .before .before .before .before .before .before .args .line .now in
+    c .named .ensures ∙ sym (marked-line l (c .before .before .before .before .before .run-end .ensures) (c .before .before .run-end2 .ensures) (sym (c .before .before .before .before .byte-at .ensures) ∙ c .before .before .before .if1 .left))
+
+pub directive-spec : {M : Type 1} → statement M
+directive-spec =
+    tie.close
+    (tie.spec
+    run-end-requires
+    byte-at-requires
+    returns
+    add-start
+    run-end-requires-2
+    sub-named
+    part-named-start
+    part-named-end
+    named-requires
+    returns-2)

@@ -1,0 +1,60 @@
+-- The text starts where the run of letters behind the first byte that is no blank ends; a line of blanks has none.
+use native.Mathlib.Omega.{arith}
+use mathlib.Core.Path.{sym}
+use Rattle.line.proofs.Words.{no-text, word-inside, text-from}
+use borrow.Author.Needs.{needs}
+use Rattle.line.proofs.word.text.Statement.{statement}
+use Rattle.line.proofs.word.text.Tie as tie
+
+run-end-requires : tie.Need-run-end-requires
+run-end-requires c κs = search needs
+
+sub-result : tie.Need-sub-result
+sub-result c = search needs
+
+part-result-start : tie.Need-part-result-start
+part-result-start c = search needs
+
+part-result-end : tie.Need-part-result-end
+part-result-end c = search needs
+
+returns : tie.Need-returns
+returns c = let l = c .before .before .before .before .args .line .now in
+    sym (no-text l (c .before .before .run-end .ensures) (c .before .if1 .taken))
+
+add-start : tie.Need-add-start
+add-start c = search needs
+
+run-end-requires-2 : tie.Need-run-end-requires-2
+run-end-requires-2 c κs = search needs
+
+sub-result-2 : tie.Need-sub-result-2
+sub-result-2 c = let l = c .before .before .before .before .args .line .now in
+    omega (arith, word-inside l (c .before .before .run-end .ensures) (c .run-end2 .ensures) (c .before .if1 .left))
+
+part-result-start-2 : tie.Need-part-result-start-2
+part-result-start-2 c = let l = c .before .before .before .before .args .line .now in
+    omega (arith, word-inside l (c .before .before .run-end .ensures) (c .run-end2 .ensures) (c .before .if1 .left))
+
+part-result-end-2 : tie.Need-part-result-end-2
+part-result-end-2 c = search needs
+
+returns-2 : tie.Need-returns-2
+returns-2 c = let l = c .before .before .before .before .before .args .line .now in
+    text-from l (c .before .before .before .run-end .ensures) (c .before .run-end2 .ensures)
+
+pub text-spec : {M : Type 1} → statement M
+text-spec =
+    tie.close
+    (tie.spec
+    run-end-requires
+    sub-result
+    part-result-start
+    part-result-end
+    returns
+    add-start
+    run-end-requires-2
+    sub-result-2
+    part-result-start-2
+    part-result-end-2
+    returns-2)

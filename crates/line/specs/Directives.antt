@@ -1,0 +1,57 @@
+-- What a line is (document 01, "Lines and directives"): plain, or a directive by its word. A word is the run of letters behind a `!` that
+-- is the line's first byte that is no blank.
+use Prim.Native.Nat.{ℕ, _+_}
+use Prim.Native.String.{String}
+use mathlib.Core.List.{List, [], _∷_}
+use lib.ListN.{getD, take, drop}
+use lib.Dec.{eqb}
+use Rattle.text.specs.Bytes.{byte, bytes, pick}
+use Rattle.text.specs.Order.{alike}
+use Rattle.text.specs.Runs.{span}
+use Rattle.text.specs.declared.runs.Set.the-variants.{Blanks, Letters}
+use Rattle.line.specs.declared.Directive.{Directive}
+use Rattle.line.specs.declared.Directive.the-variants.{Plain, If, Ifdef, Ifndef, Elseif, Else, Endif, Unknown}
+
+-- a word, and what it makes of its line
+pub record Word : Type 0 where
+  pub text : List ℕ
+  pub directive : Directive
+
+abbrev word : String → Directive → Word
+word s d = record { text = bytes s; directive = d }
+
+-- `elif` is `elseif`; `include` and `error` leave a line plain
+abbrev pub words : List Word
+words =
+    word "if" If
+    ∷ word "ifdef" Ifdef
+    ∷ word "ifndef" Ifndef
+    ∷ word "elseif" Elseif
+    ∷ word "elif" Elseif
+    ∷ word "else" Else
+    ∷ word "endif" Endif
+    ∷ word "include" Plain
+    ∷ word "error" Plain
+    ∷ []
+
+-- any other word is unknown, an empty one too
+unfoldable pub named : List Word → List ℕ → Directive
+named [] w = Unknown
+named (x ∷ xs) w = pick (alike w (x .text)) (x .directive) (named xs w)
+
+-- where the word of a line starts that has one, and where the text after it starts
+unfoldable pub wordStart : List ℕ → ℕ
+wordStart l = span Blanks l + 1
+
+unfoldable pub textStart : List ℕ → ℕ
+textStart l = wordStart l + span Letters (drop (wordStart l) l)
+
+abbrev pub wordOf : List ℕ → List ℕ
+wordOf l = take (span Letters (drop (wordStart l) l)) (drop (wordStart l) l)
+
+-- the text after the word, up to the line's end
+abbrev pub textOf : List ℕ → List ℕ
+textOf l = drop (textStart l) l
+
+unfoldable pub directiveOf : List ℕ → Directive
+directiveOf l = pick (eqb (getD l (span Blanks l) 0) (byte "!")) (named words (wordOf l)) Plain

@@ -1,0 +1,4 @@
+pub mod Lines
+pub mod Directives
+pub mod Cutting
+pub mod Examples
