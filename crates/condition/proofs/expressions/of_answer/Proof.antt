@@ -1,0 +1,54 @@
+-- The variant and the value's kind decide.
+use Rattle.condition.specs.Conditions.{ofAnswer}
+use borrow.Author.Needs.{needs}
+use Rattle.condition.proofs.expressions.of_answer.Statement.{statement}
+use Rattle.condition.proofs.expressions.of_answer.Tie as tie
+
+enum-known-a : tie.Need-enum-known-a
+enum-known-a c = search needs
+
+enum-known-a-2 : tie.Need-enum-known-a-2
+enum-known-a-2 c = search needs
+
+enum-known-v : tie.Need-enum-known-v
+enum-known-v c = search needs
+
+of-number-requires : tie.Need-of-number-requires
+of-number-requires c κs = search needs
+
+enum-told : tie.Need-enum-told
+enum-told c = search needs
+
+enum-told-2 : tie.Need-enum-told-2
+enum-told-2 c = search needs
+
+returns : tie.Need-returns
+unfolding ofAnswer
+returns c = λ e t. rw (c .before .a .given .1)
+
+returns-2 : tie.Need-returns-2
+unfolding ofAnswer
+returns-2 c = λ e t. rw (c .before .before .before .before .before .a2 .given .1, c .before .before .v .given .1) (c .of-number .ensures)
+
+returns-3 : tie.Need-returns-3
+unfolding ofAnswer
+returns-3 c = λ e t. rw (c .before .before .before .a2 .given .1, c .enum-told .given .1)
+
+returns-4 : tie.Need-returns-4
+unfolding ofAnswer
+returns-4 c = λ e t. rw (c .before .before .before .a2 .given .1, c .enum-told2 .given .1)
+
+pub of-answer-spec : {M : Type 1} → statement M
+of-answer-spec =
+    tie.close
+    (tie.spec
+    enum-known-a
+    enum-known-a-2
+    enum-known-v
+    of-number-requires
+    enum-told
+    enum-told-2
+    returns
+    returns-2
+    returns-3
+    returns-4)

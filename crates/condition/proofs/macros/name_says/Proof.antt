@@ -1,0 +1,52 @@
+-- Without its blank the text is malformed; with it what stands behind the blanks decides.
+use native.Mathlib.Omega.{arith}
+use mathlib.Core.Path.{sym, _∙_}
+use borrow.Author.Tests.{not-true, not-false}
+use Rattle.condition.specs.Conditions.{nameSays}
+use Rattle.condition.proofs.Texts.{blanks-inside, past-blanks}
+use borrow.Author.Needs.{needs}
+use Rattle.condition.proofs.macros.name_says.Statement.{statement}
+use Rattle.condition.proofs.macros.name_says.Tie as tie
+
+is-spaced-requires : tie.Need-is-spaced-requires
+is-spaced-requires c κs = search needs
+
+returns : tie.Need-returns
+unfolding nameSays
+returns c = rw (sym (c .before .is-spaced .ensures) ∙ not-true _ (c .if1 .taken))
+
+run-end-requires : tie.Need-run-end-requires
+run-end-requires c κs = search needs
+
+sub-rest : tie.Need-sub-rest
+sub-rest c = omega (arith, blanks-inside (c .before .before .before .before .before .args .text .now) (c .run-end .ensures))
+
+part-rest-start : tie.Need-part-rest-start
+part-rest-start c = blanks-inside (c .before .before .before .before .before .args .text .now) (c .run-end .ensures)
+
+part-rest-end : tie.Need-part-rest-end
+part-rest-end c = search needs
+
+name-at-requires : tie.Need-name-at-requires
+name-at-requires c κs = search needs
+
+named-says-requires : tie.Need-named-says-requires
+named-says-requires c κs = search needs
+
+returns-2 : tie.Need-returns-2
+unfolding nameSays
+returns-2 c = c .named-says .ensures ∙ rw (c .before .name-at .ensures, past-blanks (c .before .before .before .before .before .before .before .before .args .text .now) (c .before .before .before .run-end .ensures), sym (c .before .before .before .before .before .is-spaced .ensures) ∙ not-false _ (c .before .before .before .before .if1 .left))
+
+pub name-says-spec : {M : Type 1} → statement M
+name-says-spec =
+    tie.close
+    (tie.spec
+    is-spaced-requires
+    returns
+    run-end-requires
+    sub-rest
+    part-rest-start
+    part-rest-end
+    name-at-requires
+    named-says-requires
+    returns-2)

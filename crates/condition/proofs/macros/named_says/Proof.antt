@@ -1,0 +1,49 @@
+-- The tests are those of the definition, in order; what the table has under the name decides.
+use native.Mathlib.Omega.{arith}
+use mathlib.Core.Path.{sym, _∙_}
+use borrow.Author.Tests.{lt-ltb, not-true, not-false}
+use Rattle.condition.specs.Conditions.{namedSays}
+use borrow.Author.Needs.{needs}
+use Rattle.condition.proofs.macros.named_says.Statement.{statement}
+use Rattle.condition.proofs.macros.named_says.Tie as tie
+
+returns : tie.Need-returns
+unfolding namedSays
+returns c = rw (c .if1 .taken)
+
+is-idle-requires : tie.Need-is-idle-requires
+is-idle-requires c κs = search needs
+
+returns-2 : tie.Need-returns-2
+unfolding namedSays
+returns-2 c = rw (lt-ltb 0 (c .before .before .before .before .before .before .before .args .n .len) (omega arith), sym (c .before .is-idle .ensures) ∙ not-true _ (c .if2 .taken))
+
+part-requires : tie.Need-part-requires
+part-requires c κs = search needs
+
+lookup-requires : tie.Need-lookup-requires
+lookup-requires c κs = search needs
+
+is-missing-requires : tie.Need-is-missing-requires
+is-missing-requires c κs = search needs
+
+decide-requires : tie.Need-decide-requires
+decide-requires c κs = search needs
+
+returns-3 : tie.Need-returns-3
+unfolding namedSays
+returns-3 c = let s = c .before .before .before .before .before .before .before .before .before .before .before .before in
+    c .decide .ensures ∙ rw (lt-ltb 0 (s .args .n .len) (omega arith), sym (c .before .before .before .before .before .before .is-idle .ensures) ∙ not-false _ (c .before .before .before .before .before .if2 .left), c .before .is-missing .ensures, c .before .before .lookup .ensures .right (s .pre), c .before .before .before .part .ensures .bytes)
+
+pub named-says-spec : {M : Type 1} → statement M
+named-says-spec =
+    tie.close
+    (tie.spec
+    returns
+    is-idle-requires
+    returns-2
+    part-requires
+    lookup-requires
+    is-missing-requires
+    decide-requires
+    returns-3)

@@ -1,0 +1,37 @@
+// Blanks and comments: before an argument, after it, and in place of one.
+use crate::Condition;
+use text::bytes;
+use text::runs;
+use text::runs::Set;
+ghost use mathlib.Core.Path.{_≡_};
+ghost use lib.ListN.{drop};
+ghost use Rattle.condition.specs.Conditions.{spaced, idle, nothingSays};
+
+// Whether a blank stands directly after the word.
+pub fn is_spaced(text: &[u8]) -> bool
+    ensures { λ r. ⌜ r ≡ spaced (now (text .entry)) ⌝ }
+{
+    runs::has(Set::Blanks, bytes::byte_at(text, 0))
+}
+
+// Whether nothing but blanks, and a comment where there is one, stands from a byte on.
+pub fn is_idle(text: &[u8], from: usize) -> bool
+    ensures { λ r. ⌜ r ≡ idle (drop from (now (text .entry))) ⌝ }
+{
+    let end = runs::run_end(text, from, Set::Blanks);
+    if text.len() <= end {
+        return true;
+    }
+    bytes::byte_at(text, end) == b'#'
+}
+
+// `!else` and `!endif`.
+pub fn nothing_says(text: &[u8]) -> Condition
+    ensures { λ r. ⌜ r ≡ nothingSays (now (text .entry)) ⌝ }
+{
+    if is_idle(text, 0) {
+        Condition::Holds(0)
+    } else {
+        Condition::Wrong(units::TEXT_MALFORMED)
+    }
+}

@@ -1,0 +1,113 @@
+// `!ifdef` and `!ifndef`: one macro's name.
+use crate::Condition;
+use crate::blanks;
+use text::bytes;
+use text::names;
+use text::parts;
+use text::runs;
+use text::runs::Set;
+use units::Offset;
+use value::values;
+ghost use mathlib.Core.Path.{_≡_};
+ghost use mathlib.Core.Bool.{true};
+ghost use Rattle.settings.specs.Table.{wellFormed};
+ghost use Rattle.condition.specs.Conditions.{nameOver, plainName, usedName, nameAt, tested, decided, namedSays, nameSays};
+
+// A macro's name at the front of a text: where it starts, how long it is, 0 where none stands there, and where the text goes on.
+pub struct Named {
+    pub start: Offset,
+    pub len: usize,
+    pub after: Offset,
+}
+
+fn name_over(start: usize, len: usize, after: usize) -> Named
+    ensures { λ r. ⌜ r ≡ nameOver start len after ⌝ }
+{
+    Named {
+        start: Offset(start),
+        len,
+        after: Offset(after),
+    }
+}
+
+// `NAME`.
+fn plain_name(text: &[u8]) -> Named
+    ensures { λ r. ⌜ r ≡ plainName (now (text .entry)) ⌝ }
+{
+    let n = names::macro_name(text);
+    name_over(0, n, n)
+}
+
+// `$(NAME)`.
+fn used_name(text: &[u8]) -> Named
+    ensures { λ r. ⌜ r ≡ usedName (now (text .entry)) ⌝ }
+{
+    if bytes::byte_at(text, 1) != b'(' {
+        return name_over(0, 0, 0);
+    }
+    let n = names::macro_name(&text[2..]);
+    if bytes::byte_at(text, 2 + n) != b')' {
+        return name_over(0, 0, 0);
+    }
+    name_over(2, n, n + 3)
+}
+
+fn name_at(text: &[u8]) -> Named
+    ensures { λ r. ⌜ r ≡ nameAt (now (text .entry)) ⌝ }
+{
+    if bytes::byte_at(text, 0) == b'$' {
+        used_name(text)
+    } else {
+        plain_name(text)
+    }
+}
+
+fn as_condition(holds: bool) -> Condition
+    ensures { λ r. ⌜ r ≡ tested holds ⌝ }
+{
+    if holds {
+        Condition::Holds(0)
+    } else {
+        Condition::Fails(0)
+    }
+}
+
+// Whether the table has a name, or does not, as wanted.
+fn decide(wanted: bool, missing: bool) -> Condition
+    ensures { λ r. ⌜ r ≡ decided wanted missing ⌝ }
+{
+    if wanted {
+        return as_condition(!missing);
+    }
+    as_condition(missing)
+}
+
+// A text that has this name at its front.
+fn named_says(table: &[u8], wanted: bool, text: &[u8], n: Named) -> Condition
+    requires { ⌜ wellFormed (now table) ≡ true ⌝ }
+    ensures { λ r. ⌜ r ≡ namedSays (now (table .entry)) wanted (now (text .entry)) n ⌝ }
+{
+    if n.len == 0 {
+        return Condition::Wrong(units::TEXT_MALFORMED);
+    }
+    let after = n.after;
+    if !blanks::is_idle(text, after.0) {
+        return Condition::Wrong(units::TEXT_MALFORMED);
+    }
+    let start = n.start;
+    let name = parts::part(text, start.0, n.len);
+    decide(wanted, values::is_missing(settings::lookup(table, name)))
+}
+
+// `!ifdef` where `wanted` is true, `!ifndef` where it is false.
+pub fn name_says(table: &[u8], wanted: bool, text: &[u8]) -> Condition
+    requires { ⌜ wellFormed (now table) ≡ true ⌝ }
+    ensures { λ r. ⌜ r ≡ nameSays (now (table .entry)) wanted (now (text .entry)) ⌝ }
+{
+    if !blanks::is_spaced(text) {
+        return Condition::Wrong(units::TEXT_MALFORMED);
+    }
+    let first = runs::run_end(text, 0, Set::Blanks);
+    let rest = &text[first..];
+    named_says(table, wanted, rest, name_at(rest))
+}

@@ -1,0 +1,4 @@
+pub mod Groups
+pub mod Rules
+pub mod Decide
+pub mod Stack

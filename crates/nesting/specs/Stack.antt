@@ -1,0 +1,58 @@
+-- How the code holds the open groups: two arrays of 16 entries, the outermost group first. Contracts between layers cite this; no promise
+-- about a selection does.
+use Prim.Native.Nat.{ℕ, _+_, _%_, _≤_}
+use mathlib.Core.Path.{_≡_}
+use mathlib.Core.Bool.{Bool, true, false}
+use mathlib.Core.List.{List, [], _∷_}
+use lib.ListN.{length, getD}
+use lib.Dec.{eqb, leb}
+use Rattle.text.specs.Bytes.{pick}
+use Rattle.nesting.specs.Groups.{Group, group}
+use Rattle.nesting.specs.Decide.{State, Outcome, go, stop}
+use Rattle.nesting.specs.declared.Standing.{Standing}
+use Rattle.nesting.specs.declared.Standing.the-variants.{Outside, Dead, Seeking, Taken, Past}
+use Rattle.nesting.specs.declared.Selection.{Selection}
+use Rattle.nesting.specs.declared.Step.{Step}
+
+-- how a group stands, as a number below 8
+abbrev pub standingNumber : Standing → ℕ
+standingNumber Outside = 4
+standingNumber Dead = 0
+standingNumber Seeking = 1
+standingNumber Taken = 2
+standingNumber Past = 3
+
+-- with 8 more where its `!else` was met
+abbrev pub entryOf : Standing → Bool → ℕ
+entryOf s b = standingNumber s + pick b 8 0
+
+-- and back
+unfoldable pub standingIn : ℕ → Standing
+standingIn e =
+    pick (eqb (e % 8) 0) Dead
+    (pick (eqb (e % 8) 1) Seeking
+    (pick (eqb (e % 8) 2) Taken
+    (pick (eqb (e % 8) 3) Past
+    Outside)))
+
+abbrev pub closedIn : ℕ → Bool
+closedIn e = leb 8 e
+
+-- every open group has its entries
+abbrev pub Stacked : List Group → (standings lines : List ℕ) → Type 0
+Stacked [] ss ls = Unit
+Stacked (group s b n ∷ gs) ss ls = (getD ss (length gs) 0 ≡ entryOf s b) × (getD ls (length gs) 0 ≡ n) × Stacked gs ss ls
+
+-- the code's selection is this state
+pub record Represents (x : Selection) (s : State) : Type 0 where
+  pub depth : x .depth ≡ length (s .groups)
+  pub shallow : length (s .groups) ≤ 16
+  pub count : x .count ≡ s .count
+  pub stacked : Stacked (s .groups) (x .standings) (x .lines)
+  pub standings-long : length (x .standings) ≡ 16
+  pub lines-long : length (x .lines) ≡ 16
+
+-- the code's step is this outcome
+abbrev pub Meets : Step → Outcome → Type 0
+Meets x (go m s) = (x .ok ≡ true) × (x .mark ≡ m) × Represents (x .next) s
+Meets x (stop r) = (x .ok ≡ false) × (x .number ≡ r)

@@ -1,0 +1,65 @@
+// What a line comes to, from its directive and what its text says.
+use crate::Selection;
+use crate::Standing;
+use crate::Step;
+use crate::rules;
+use crate::stack;
+use condition::Condition;
+use line::Directive;
+use units::LineNumber;
+ghost use Prim.Native.Nat.{_≤_, _<_};
+ghost use Rattle.nesting.specs.Decide.{State, plain as plainOf, opening, decided};
+ghost use Rattle.nesting.specs.Stack.{Represents, Meets};
+
+// A new group in line n: 20 before anything its text says.
+fn open_group(c: Condition, n: LineNumber, x: Selection) -> Step
+    requires { ⌜ (x .depth ≤ 16) × (n .0 < 65536) ⌝ }
+    ensures { λ z. ⌜ ((t : State) → Represents x t → Meets z (opening c (n .0) (t .count) (t .groups))) ⌝ }
+{
+    let depth = x.depth;
+    if 16 <= depth {
+        return stack::refused(units::NESTING_DEEP, x);
+    }
+    if !rules::live(stack::standing(x)) {
+        return stack::went(rules::UNREAD, stack::push(x, Standing::Dead, n));
+    }
+    match c {
+        Condition::Holds(_) => stack::went(rules::TAKEN, stack::push(x, Standing::Taken, n)),
+        Condition::Fails(_) => stack::went(rules::NOT_TAKEN, stack::push(x, Standing::Seeking, n)),
+        Condition::Wrong(number) => stack::refused(number, x),
+    }
+}
+
+// A plain line.
+fn plain(x: Selection) -> Step
+    requires { ⌜ x .depth ≤ 16 ⌝ }
+    ensures { λ z. ⌜ ((t : State) → Represents x t → Meets z (plainOf (t .count) (t .groups))) ⌝ }
+{
+    if rules::live(stack::standing(x)) {
+        return stack::went(rules::KEPT, x);
+    }
+    stack::went(rules::DROPPED, x)
+}
+
+// Line n with its directive and what its text says.
+pub fn decide(d: Directive, c: Condition, n: LineNumber, x: Selection) -> Step
+    requires { ⌜ (x .depth ≤ 16) × (n .0 < 65536) ⌝ }
+    ensures { λ z. ⌜ ((t : State) → Represents x t → Meets z (decided d c (n .0) (t .count) (t .groups))) ⌝ }
+{
+    match d {
+        Directive::Plain => plain(x),
+        Directive::If => open_group(c, n, x),
+        Directive::Ifdef => open_group(c, n, x),
+        Directive::Ifndef => open_group(c, n, x),
+        Directive::Elseif => stack::apply(
+            rules::elseif_ruling(c, stack::standing(x), stack::is_closed(x)),
+            x,
+        ),
+        Directive::Else => stack::apply(
+            rules::else_ruling(c, stack::standing(x), stack::is_closed(x)),
+            x,
+        ),
+        Directive::Endif => stack::apply(rules::end_ruling(c, stack::standing(x)), x),
+        Directive::Unknown => stack::refused(units::WORD_UNKNOWN, x),
+    }
+}

@@ -1,0 +1,67 @@
+-- A step by its cases: a line that is too long, a directive that is not read, one that is read; and how much a step counts at most.
+-- Assumes nothing.
+use Prim.Native.Nat.{ℕ, _+_, _≤_, _<_}
+use native.Mathlib.Omega.{arith}
+use native.Mathlib.Nat.{add-zero}
+use mathlib.Core.Path.{_≡_, refl, sym, ap, _∙_}
+use mathlib.Core.Bool.{true, false}
+use mathlib.Core.List.{List}
+use lib.ListN.{length}
+use lib.Dec.{ltb}
+use borrow.Author.Tests.{lt-ltb, le-ltb}
+use Rattle.units.specs.Refusals.{LINE-LONG}
+use Rattle.text.proofs.Laws.{pick-case}
+use Rattle.settings.specs.Table.{wellFormed}
+use Rattle.line.specs.Directives.{directiveOf, textOf}
+use Rattle.condition.specs.Conditions.{says, countOf}
+use Rattle.condition.specs.declared.Condition.{Condition}
+use Rattle.condition.specs.declared.Condition.the-variants.{Fails}
+use Rattle.condition.proofs.Counts.{count-small}
+use Rattle.nesting.specs.Groups.{Group, standingOf, reads}
+use Rattle.nesting.specs.Decide.{State, Outcome, go, stop, decided}
+use Rattle.nesting.proofs.Decided.{Counts, decided-counts}
+use Rattle.select.specs.Step.{heard, step}
+
+module _ (t : List ℕ) (n : ℕ) (s : State) (l : List ℕ) where
+  pub long-step : 1024 < length l → step t n s l ≡ stop LINE-LONG
+  unfolding step
+  long-step h = rw (lt-ltb 1024 (length l) h)
+
+  pub decided-step : length l ≤ 1024 → step t n s l ≡ decided (directiveOf l) (heard t (s .groups) l) n (s .count + countOf (heard t (s .groups) l)) (s .groups)
+  unfolding step
+  decided-step h = rw (le-ltb 1024 (length l) h)
+
+  pub unread-step : length l ≤ 1024 → reads (directiveOf l) (standingOf (s .groups)) ≡ false → step t n s l ≡ decided (directiveOf l) (Fails 0) n (s .count) (s .groups)
+  unfolding heard
+  unread-step h r = decided-step h ∙ rw (r, add-zero (s .count))
+
+  pub read-step : length l ≤ 1024 → reads (directiveOf l) (standingOf (s .groups)) ≡ true
+      → step t n s l ≡ decided (directiveOf l) (says t (directiveOf l) (textOf l)) n (s .count + countOf (says t (directiveOf l) (textOf l))) (s .groups)
+  unfolding heard
+  read-step h r = decided-step h ∙ rw r
+
+  module _ (sound : wellFormed t ≡ true) where
+    heard-small : countOf (heard t (s .groups) l) < 200
+    unfolding heard
+    heard-small =
+        pick-case (λ (c : Condition). countOf c < 200) (reads (directiveOf l) (standingOf (s .groups))) (λ _. count-small t (directiveOf l) (textOf l) sound) (λ _. omega arith)
+
+    -- a step's count, if it has one
+    Small : Outcome → Type 0
+    Small (go m s′) = s′ .count < s .count + 200
+    Small (stop r) = Unit
+
+    counts-small : (o : Outcome) → Counts (s .count + countOf (heard t (s .groups) l)) o → Small o
+    unfolding Small
+    counts-small (go m s′) e = omega (arith, e, heard-small)
+    counts-small (stop r) e = tt
+
+    step-is-small : Small (step t n s l)
+    unfolding step Small
+    step-is-small =
+        pick-case Small (ltb 1024 (length l)) (λ _. tt)
+        (λ _. counts-small (decided (directiveOf l) (heard t (s .groups) l) n (s .count + countOf (heard t (s .groups) l)) (s .groups)) (decided-counts (directiveOf l) (heard t (s .groups) l) n (s .count + countOf (heard t (s .groups) l)) (s .groups)))
+
+    pub step-small : (m : ℕ) (s′ : State) → step t n s l ≡ go m s′ → s′ .count < s .count + 200
+    unfolding Small
+    step-small m s′ e = rw e at step-is-small

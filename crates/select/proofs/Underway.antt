@@ -1,0 +1,127 @@
+-- A run underway: the marks of the lines so far stand in front of what comes of the other lines, from the state that was reached. A turn
+-- of the loop takes one line off. Assumes nothing.
+use Prim.Native.Nat.{ℕ, suc, _+_, _-_, _*_, _≤_, _<_}
+use native.Mathlib.Omega.{arith}
+use native.Mathlib.Numerals.{add-one}
+use mathlib.Core.Path.{_≡_, refl, sym, ap, _∙_}
+use mathlib.Core.Bool.{Bool, true, false, false≢true}
+use mathlib.Core.List.{List, [], _∷_, _++_, append-assoc}
+use lib.ListN.{length, getD, drop, set, length-append, drop-of-length-le}
+use lib.Seq.{drop-cons, set-at}
+use Rattle.line.specs.Lines.{lines}
+use Rattle.condition.specs.Conditions.{countOf}
+use Rattle.nesting.specs.Groups.{Group, group}
+use Rattle.nesting.specs.Decide.{State, Outcome, go, stop}
+use Rattle.nesting.specs.Stack.{Represents, Meets}
+use Rattle.nesting.specs.declared.Selection.{Selection}
+use Rattle.nesting.specs.declared.Step.{Step}
+use Rattle.select.specs.Step.{step}
+use Rattle.select.specs.Select.{Result, accepted, refused, prepend, atEnd, after, run, start, answerOf}
+use Rattle.select.specs.Running.{ends, prepended, Runs}
+use Rattle.select.specs.declared.Answer.{Answer}
+use Rattle.select.specs.declared.Answer.the-variants.{Accepted, Refused}
+
+prepended-accepted : (ms : List ℕ) (c : ℕ) → prepended ms (accepted [] c) ≡ accepted ms c
+unfolding prepended
+prepended-accepted [] c = refl
+prepended-accepted (m ∷ ms) c = rw (prepended-accepted ms c)
+
+prepended-refused : (ms : List ℕ) (k n : ℕ) → prepended ms (refused k n) ≡ refused k n
+unfolding prepended
+prepended-refused [] k n = refl
+prepended-refused (m ∷ ms) k n = rw (prepended-refused ms k n)
+
+prepended-one : (ms : List ℕ) (m : ℕ) (r : Result) → prepended ms (prepend m r) ≡ prepended (ms ++ m ∷ []) r
+unfolding prepended
+prepended-one [] m r = refl
+prepended-one (x ∷ ms) m r = ap (prepend x) (prepended-one ms m r)
+
+-- n lines were marked, and the next one starts at byte `at`
+pub record Underway (f t marks₀ : List ℕ) (x : Selection) (at n : ℕ) (marks : List ℕ) : Type 0 where
+  pub reached : State
+  pub done : List ℕ
+  pub represents : Represents x reached
+  pub as-many : length done ≡ n
+  pub left : n + length (lines (drop at f)) ≡ length (lines f)
+  pub goes : run t 1 start (lines f) ≡ prepended done (run t (n + 1) reached (lines (drop at f)))
+  pub stored : marks ≡ done ++ drop n marks₀
+  pub counted : reached .count ≤ 200 * n
+
+pub begun : (f t marks : List ℕ) (x : Selection) → Represents x start → Underway f t marks x 0 0 marks
+unfolding prepended
+begun f t marks x r =
+    record {
+      reached = start;
+      done = [];
+      represents = r;
+      as-many = refl;
+      left = omega arith;
+      goes = refl;
+      stored = refl;
+      counted = omega arith;
+    }
+
+module _ (f t marks₀ : List ℕ) (x : Selection) (at n : ℕ) (marks : List ℕ) (u : Underway f t marks₀ x at n marks) where
+  -- the next line, and where the one after it starts: its number is one of the file's
+  pub inside : (l : List ℕ) (next : ℕ) → lines (drop at f) ≡ l ∷ lines (drop next f) → n < length (lines f)
+  inside l next cut = omega (arith, u .left, ap length cut)
+
+  module _ (l : List ℕ) (next : ℕ) (cut : lines (drop at f) ≡ l ∷ lines (drop next f)) (z : Step) (meets : Meets z (step t (n + 1) (u .reached) l)) where
+    one-more : run t (n + 1) (u .reached) (lines (drop at f)) ≡ after (step t (n + 1) (u .reached) l) (n + 1) (λ s. run t (n + 1 + 1) s (lines (drop next f)))
+    unfolding run
+    one-more = rw cut
+
+    pub stops : z .ok ≡ false → run t 1 start (lines f) ≡ refused (z .number) (n + 1)
+    stops h = u .goes ∙ ap (prepended (u .done)) one-more ∙ by (step t (n + 1) (u .reached) l) meets
+      where
+        by : (o : Outcome) → Meets z o → prepended (u .done) (after o (n + 1) (λ s. run t (n + 1 + 1) s (lines (drop next f)))) ≡ refused (z .number) (n + 1)
+        by (go m s) k = absurd (false≢true (sym h ∙ k .0))
+        by (stop r) k = prepended-refused (u .done) r (n + 1) ∙ ap (λ i. refused i (n + 1)) (sym (k .1))
+
+    -- what is counted in a line, and the room for its mark
+    module _ (small : (m : ℕ) (s : State) → step t (n + 1) (u .reached) l ≡ go m s → s .count < u .reached .count + 200) (room : n < length marks₀) where
+      stored-one : set marks n (z .mark) ≡ (u .done ++ z .mark ∷ []) ++ drop (n + 1) marks₀
+      stored-one =
+          let d : drop n marks₀ ≡ getD marks₀ n 0 ∷ drop (n + 1) marks₀ = rw add-one (drop-cons marks₀ n 0 room) in
+          rw (u .stored, d) (set-at (u .done) (getD marks₀ n 0) (drop (n + 1) marks₀) (z .mark) n (u .as-many) ∙ sym (append-assoc (u .done) (z .mark ∷ []) (drop (n + 1) marks₀)))
+
+      pub goes-on : z .ok ≡ true → Underway f t marks₀ (z .next) next (n + 1) (set marks n (z .mark))
+      goes-on h = by (step t (n + 1) (u .reached) l) refl meets
+        where
+          by : (o : Outcome) → step t (n + 1) (u .reached) l ≡ o → Meets z o → Underway f t marks₀ (z .next) next (n + 1) (set marks n (z .mark))
+          by (stop r) e k = absurd (false≢true (sym (k .0) ∙ h))
+          by (go m s) e k =
+              record {
+                reached = s;
+                done = u .done ++ z .mark ∷ [];
+                represents = k .2;
+                as-many = length-append (u .done) (z .mark ∷ []) ∙ ap (λ i. i + 1) (u .as-many);
+                left = omega (arith, u .left, ap length cut);
+                goes = u .goes ∙ ap (prepended (u .done)) (one-more ∙ rw (e, k .1)) ∙ prepended-one (u .done) (z .mark) (run t (n + 1 + 1) s (lines (drop next f)));
+                stored = stored-one;
+                counted = omega (arith, small m s e, u .counted);
+              }
+
+  -- no line is left
+  module _ (over : length f ≤ at) where
+    no-lines : lines (drop at f) ≡ []
+    unfolding lines
+    no-lines = rw (drop-of-length-le f over)
+
+    ended : run t 1 start (lines f) ≡ prepended (u .done) (atEnd (u .reached .groups) (u .reached .count))
+    unfolding run
+    ended = u .goes ∙ ap (λ ls. prepended (u .done) (run t (n + 1) (u .reached) ls)) no-lines
+
+    pub finished : (r : Answer) → r ≡ ends n (u .reached .groups) (u .reached .count) → Runs f t marks₀ r marks
+    finished r e = by (u .reached .groups) refl
+      where
+        by : (gs : List Group) → u .reached .groups ≡ gs → Runs f t marks₀ r marks
+        by [] g =
+            let w : run t 1 start (lines f) ≡ accepted (u .done) (u .reached .count) = ended ∙ rw g (prepended-accepted (u .done) (u .reached .count)) in
+            record {
+              answer = e ∙ rw (g, w, u .as-many);
+              marked = λ ms c q. let p : u .done ≡ ms = cc in u .stored ∙ rw (← u .as-many, p);
+            }
+        by (group s b l ∷ gs) g =
+            let w : run t 1 start (lines f) ≡ refused 21 l = ended ∙ rw g (prepended-refused (u .done) 21 l) in
+            record { answer = e ∙ rw (g, w); marked = λ ms c q. let i : _≡_ {A = ℕ} 0 1 = cc in absurd (omega arith) }

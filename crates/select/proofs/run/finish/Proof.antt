@@ -1,0 +1,41 @@
+-- The entry on top has the line of the innermost group.
+use native.Mathlib.Omega.{arith}
+use mathlib.Core.Path.{_≡_, refl, sym, ap, _∙_}
+use mathlib.Core.List.{List, [], _∷_}
+use Rattle.select.proofs.Ends.{no-group, top-line}
+use borrow.Author.Needs.{needs}
+use Rattle.select.proofs.run.finish.Statement.{statement}
+use Rattle.select.proofs.run.finish.Tie as tie
+
+returns : tie.Need-returns
+returns c = λ s r. no-group (c .before .args .t1) s r (c .before .args .n) (c .if1 .taken)
+
+sub-refused : tie.Need-sub-refused
+sub-refused c = search needs
+
+mul-refused : tie.Need-mul-refused
+mul-refused c = search needs
+
+element-copy-out-refused : tie.Need-element-copy-out-refused
+element-copy-out-refused c = search needs
+
+cast-refused : tie.Need-cast-refused
+cast-refused c = search needs
+
+refused-requires : tie.Need-refused-requires
+refused-requires c κs = search needs
+
+returns-2 : tie.Need-returns-2
+returns-2 c = λ s r. c .refused .ensures ∙ top-line (c .before .before .before .args .t1) s r (c .before .before .before .args .n) (c .before .before .if1 .left)
+
+pub finish-spec : {M : Type 1} → statement M
+finish-spec =
+    tie.close
+    (tie.spec
+    returns
+    sub-refused
+    mul-refused
+    element-copy-out-refused
+    cast-refused
+    refused-requires
+    returns-2)

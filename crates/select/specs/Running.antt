@@ -1,0 +1,40 @@
+-- A run underway, as contracts of private functions have it. No promise about a selection cites this.
+use Prim.Native.Nat.{ℕ, _≤_}
+use mathlib.Core.Path.{_≡_}
+use mathlib.Core.Bool.{true}
+use mathlib.Core.List.{List, [], _∷_, _++_}
+use lib.ListN.{length, drop}
+use Rattle.units.specs.Refusals.{FILE-UNFINISHED}
+use Rattle.settings.specs.Table.{wellFormed}
+use Rattle.line.specs.Lines.{lines}
+use Rattle.nesting.specs.Groups.{Group, group}
+use Rattle.select.specs.Select.{MOST-LINES, Result, accepted, refused, prepend, run, start, selection, answerOf}
+use Rattle.select.specs.declared.Answer.{Answer}
+use Rattle.select.specs.declared.Answer.the-variants.{Accepted, Refused}
+
+-- the answer after n lines, with these groups open
+abbrev pub ends : (n : ℕ) → List Group → (count : ℕ) → Answer
+ends n [] c = Accepted n c
+ends n (group s b l ∷ gs) c = Refused (record { number = FILE-UNFINISHED; line = record { 0 = l } })
+
+-- the marks of the lines so far in front of what comes of the others
+unfoldable pub prepended : List ℕ → Result → Result
+prepended [] r = r
+prepended (m ∷ ms) r = prepend m (prepended ms r)
+
+-- what a run over all lines gives, and the marks that it leaves where it is accepted
+pub record Runs (f t marks : List ℕ) (r : Answer) (marks′ : List ℕ) : Type 0 where
+  pub answer : r ≡ answerOf (run t 1 start (lines f))
+  pub marked : (ms : List ℕ) (c : ℕ) → run t 1 start (lines f) ≡ accepted ms c → marks′ ≡ ms ++ drop (length ms) marks
+
+-- what is asked before any line was passed: then the run over the lines is the selection
+pub record Fit (f t : List ℕ) (room : ℕ) : Type 0 where
+  pub sound : wellFormed t ≡ true
+  pub few : length (lines f) ≤ MOST-LINES
+  pub enough : length (lines f) ≤ room
+  pub runs : selection f t room ≡ run t 1 start (lines f)
+
+-- r is the number of the refusal before any line, 0 where there is none
+pub record Unfit (f t : List ℕ) (room r : ℕ) : Type 0 where
+  pub refuses : (r ≡ 0 → ⊥) → selection f t room ≡ refused r 0
+  pub passes : r ≡ 0 → Fit f t room

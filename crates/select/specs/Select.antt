@@ -1,0 +1,77 @@
+-- A selection (document 01, "Lines and directives"): a mark for each line and the sum of the counts of operators, or a refusal with its
+-- line. Before any line 1, 14, 15 and 16 are asked, with line 0; at the end 21, with the line of the innermost open `!if`.
+use Prim.Native.Nat.{ℕ, _+_}
+use mathlib.Core.Path.{_≡_}
+use mathlib.Core.List.{List, [], _∷_, _++_}
+use lib.ListN.{length, drop, replicate}
+use lib.Dec.{ltb}
+use Rattle.units.specs.Refusals.{TABLE-MALFORMED, FILE-LONG, LINES-MANY, MARKS-SHORT, FILE-UNFINISHED}
+use Rattle.text.specs.Bytes.{pick}
+use Rattle.settings.specs.Table.{wellFormed}
+use Rattle.line.specs.Lines.{lines}
+use Rattle.nesting.specs.Groups.{Group, group}
+use Rattle.nesting.specs.Decide.{State, state, Outcome, go, stop}
+use Rattle.select.specs.Step.{step}
+use Rattle.select.specs.declared.Answer.{Answer}
+use Rattle.select.specs.declared.Answer.the-variants.{Accepted, Refused}
+
+-- the most bytes and the most lines of a file
+abbrev pub MOST-FILE : ℕ
+MOST-FILE = 65536
+
+abbrev pub MOST-LINES : ℕ
+MOST-LINES = 4096
+
+-- the marks of the lines and the sum of counts, or a refusal's number and line
+pub data Result : Type 0 where
+  accepted : (marks : List ℕ) → (count : ℕ) → Result
+  refused : (number line : ℕ) → Result
+
+-- a line's mark in front of those of the lines after it
+abbrev pub prepend : ℕ → Result → Result
+prepend m (accepted ms c) = accepted (m ∷ ms) c
+prepend m (refused k n) = refused k n
+
+-- where all groups are closed at the end
+abbrev pub atEnd : List Group → (count : ℕ) → Result
+atEnd [] c = accepted [] c
+atEnd (group s b n ∷ gs) c = refused FILE-UNFINISHED n
+
+-- what line n came to, and then the lines after it
+abbrev pub after : Outcome → (n : ℕ) → (State → Result) → Result
+after (go m s) n rest = prepend m (rest s)
+after (stop k) n rest = refused k n
+
+-- the lines from line n on
+unfoldable pub run : (t : List ℕ) → (n : ℕ) → State → List (List ℕ) → Result
+run t n s [] = atEnd (s .groups) (s .count)
+run t n s (l ∷ ls) = after (step t n s l) n (λ s′. run t (n + 1) s′ ls)
+
+-- no group is open, no operator was applied
+abbrev pub start : State
+start = state [] 0
+
+-- the selection over a file f and a table t, with room for so many marks
+unfoldable pub selection : (f t : List ℕ) → (room : ℕ) → Result
+selection f t room =
+    pick (wellFormed t)
+    (pick (ltb MOST-FILE (length f)) (refused FILE-LONG 0)
+    (pick (ltb MOST-LINES (length (lines f))) (refused LINES-MANY 0)
+    (pick (ltb room (length (lines f))) (refused MARKS-SHORT 0)
+    (run t 1 start (lines f)))))
+    (refused TABLE-MALFORMED 0)
+
+-- the answer: the number of lines and the count, or the refusal, which has no lines
+abbrev pub answerOf : Result → Answer
+answerOf (accepted ms c) = Accepted (length ms) c
+answerOf (refused k n) = Refused (record { number = k; line = record { 0 = n } })
+
+-- the lent marks afterwards: those past the last line stay; a refusal leaves every one of them 255
+abbrev pub marksOf : (lent : List ℕ) → Result → List ℕ
+marksOf m (accepted ms c) = ms ++ drop (length ms) m
+marksOf m (refused k n) = replicate (length m) 255
+
+-- what a call gives and leaves
+pub record Selects (f t marks : List ℕ) (r : Answer) (marks′ : List ℕ) : Type 0 where
+  pub answer : r ≡ answerOf (selection f t (length marks))
+  pub marks-are : marks′ ≡ marksOf marks (selection f t (length marks))

@@ -1,0 +1,13 @@
+// The selection of a file's lines.
+mod fill;
+mod run;
+pub mod selection;
+pub mod step;
+
+use units::Refusal;
+
+// The number of lines and the sum of the counts of operators, or the refusal.
+pub enum Answer {
+    Accepted(usize, usize),
+    Refused(Refusal),
+}

@@ -1,0 +1,77 @@
+// A run over the lines of a file.
+use crate::Answer;
+use crate::step;
+use line::cut;
+use nesting::Selection;
+use units::LineNumber;
+use units::Refusal;
+ghost use mathlib.Core.Path.{_≡_};
+ghost use mathlib.Core.Bool.{true};
+ghost use Prim.Native.Nat.{ℕ, _≤_, _<_};
+ghost use lib.ListN.{length};
+ghost use Rattle.settings.specs.Table.{wellFormed};
+ghost use Rattle.line.specs.Lines.{lines};
+ghost use Rattle.nesting.specs.Decide.{State};
+ghost use Rattle.nesting.specs.Stack.{Represents};
+ghost use Rattle.select.specs.Select.{start as startOf, atEnd, answerOf};
+ghost use Rattle.select.specs.Running.{ends, Runs};
+
+// A selection before the first line.
+fn fresh() -> Selection
+    ensures { λ r. ⌜ Represents r startOf ⌝ }
+{
+    Selection {
+        depth: 0,
+        count: 0,
+        standings: [0; 16],
+        lines: [0; 16],
+    }
+}
+
+pub fn refused(number: u8, line: usize) -> Answer
+    ensures { λ r. ⌜ r ≡ Answer.Refused (record { number = number; line = record { 0 = line } }) ⌝ }
+{
+    Answer::Refused(Refusal {
+        number,
+        line: LineNumber(line),
+    })
+}
+
+// The answer after the last of n lines: all groups are closed, or the innermost open one is at fault.
+fn finish(x: Selection, n: usize) -> Answer
+    requires { ⌜ x .depth ≤ 16 ⌝ }
+    ensures { λ r. ⌜ ((s : State) → Represents x s → r ≡ ends n (s .groups) (s .count)) ⌝ }
+{
+    let depth = x.depth;
+    if depth == 0 {
+        return Answer::Accepted(n, x.count);
+    }
+    refused(units::FILE_UNFINISHED, x.lines[depth - 1] as usize)
+}
+
+// Marks the lines of a file one after the other, up to the first that is refused.
+pub fn run<'a>(marks: &mut [u8], file: &'a [u8], table: &'a [u8]) -> Answer
+    requires { ⌜ (wellFormed (now table) ≡ true) × (length (lines (now file)) ≤ length (now marks)) × (length (lines (now file)) ≤ 4096) ⌝ }
+    ensures { λ r. ⌜ Runs (now (file .entry)) (now (table .entry)) (now (marks .entry)) r (now (marks .exit)) ⌝ }
+{
+    let mut x = fresh();
+    let mut at: usize = 0;
+    let mut n: usize = 0;
+    while at < file.len() {
+        let c = cut::next(file, at);
+        let end = c.end;
+        let after = c.after;
+        let e = end.0;
+        let z = step::step(table, LineNumber(n + 1), x, &file[at..e]);
+        let ok = z.ok;
+        if !ok {
+            return refused(z.number, n + 1);
+        }
+        marks[n] = z.mark;
+        let next = z.next;
+        x = next;
+        n += 1;
+        at = after.0;
+    }
+    finish(x, n)
+}

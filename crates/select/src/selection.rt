@@ -1,0 +1,54 @@
+// The whole selection: what is asked before any line, the run, and the marks of a refusal.
+use crate::Answer;
+use crate::fill;
+use crate::run;
+use line::cut;
+ghost use Rattle.select.specs.Select.{Selects};
+ghost use Rattle.select.specs.Running.{Unfit};
+
+// The most bytes and the most lines of a file.
+const MOST_FILE: usize = 65536;
+
+const MOST_LINES: usize = 4096;
+
+// What a refusal leaves in every mark.
+const REFUSED: u8 = 255;
+
+// The refusals that belong to no line, 0 where there is none.
+fn unfit<'a>(file: &'a [u8], table: &'a [u8], room: usize) -> u8
+    ensures { λ r. ⌜ Unfit (now (file .entry)) (now (table .entry)) room r ⌝ }
+{
+    if !settings::is_well_formed(table) {
+        return units::TABLE_MALFORMED;
+    }
+    if MOST_FILE < file.len() {
+        return units::FILE_LONG;
+    }
+    let n = cut::count(file);
+    if MOST_LINES < n {
+        return units::LINES_MANY;
+    }
+    if room < n {
+        return units::MARKS_SHORT;
+    }
+    0
+}
+
+// Marks the lines of a file: the number of lines and the sum of the counts, or the refusal, and then every mark is 255.
+pub fn select<'a>(marks: &mut [u8], file: &'a [u8], table: &'a [u8]) -> Answer
+    ensures { λ r. ⌜ Selects (now (file .entry)) (now (table .entry)) (now (marks .entry)) r (now (marks .exit)) ⌝ }
+{
+    let number = unfit(file, table, marks.len());
+    if number != 0 {
+        fill::fill(marks, REFUSED);
+        return run::refused(number, 0);
+    }
+    let r = run::run(marks, file, table);
+    match r {
+        Answer::Accepted(_, _) => r,
+        Answer::Refused(_) => {
+            fill::fill(marks, REFUSED);
+            r
+        }
+    }
+}
