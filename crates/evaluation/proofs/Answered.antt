@@ -92,7 +92,7 @@ module _ (v : Value) (n : ℕ) where
       (λ c. finished-tells a (a .value) refl (h (alive (a .kind) c)))))
 
 module _ (e t : List ℕ) where
-  tokens-read : Reads codeOf (reading e .tokens) (tokenIn (reading e .tokens))
+  pub tokens-read : Reads codeOf (reading e .tokens) (tokenIn (reading e .tokens))
   tokens-read = list-reads codeOf END-TOKEN refl (reading e .tokens)
 
   pub unread : Unread e t

@@ -2,3 +2,4 @@ pub mod Depth
 pub mod Arrays
 pub mod Answered
 pub mod Placed
+pub mod Isolated

@@ -1,3 +1,4 @@
 pub mod Evaluation
 pub mod Answers
+pub mod Isolation
 pub mod Examples

@@ -9,6 +9,7 @@ pub mod Complete
 pub mod Fusion
 pub mod Counted
 pub mod Preserved
+pub mod Related
 pub mod Unambiguous
 pub mod Decided
 pub mod Examples

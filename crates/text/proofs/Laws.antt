@@ -182,6 +182,12 @@ pub pick-case : {A : Type 0} (P : A → Type 0) (t : Bool) {x y : A} → (t ≡ 
 pick-case P true f g = f refl
 pick-case P false f g = g refl
 
+-- two choices by one test
+pub pick-both : {A B : Type 0} (R : A → B → Type 0) (t : Bool) {x y : A} {u v : B} → (t ≡ true → R x u) → (t ≡ false → R y v)
+    → R (pick t x y) (pick t u v)
+pick-both R true f g = f refl
+pick-both R false f g = g refl
+
 -- a class, by what is known of its byte
 pub class-case : (b : ℕ) (P : Class → Type 0) → (initial b ≡ true → P Initial) → (digit b ≡ true → P Digit) → (quote b ≡ true → P Quote)
     → P Blank → P Operator → P Dollar → P Comment → P Other → P (classOf b)

@@ -1,6 +1,8 @@
 -- Values, and what each form of an expression makes of its operands' (document 01, "Kinds and values"). A string is its bytes; with
 -- them goes the part of the caller's memory where they stand.
 use Prim.Native.Nat.{ℕ, _+_, _-_}
+use mathlib.Core.Path.{_≡_}
+use mathlib.Core.Logic.{_⊎_}
 use mathlib.Core.Bool.{Bool, true, false, not, _&&_, _||_}
 use mathlib.Core.List.{List}
 use lib.ListN.{take, drop}
@@ -53,6 +55,10 @@ settingIn t Missing = number 0
 -- the name in a token of an expression e: of `$(NAME)` what stands inside, of a PCD all of it
 abbrev pub nameIn : List ℕ → Token → List ℕ
 nameIn e k = pick (eqb (k .code) MACRO) (take (k .len - 3) (drop (k .start + 2) e)) (take (k .len) (drop (k .start) e))
+
+-- the tokens that have one
+abbrev pub Naming : Token → Type 0
+Naming k = (k .code ≡ MACRO) ⊎ (k .code ≡ PCD)
 
 -- a primary's value: a literal's, a string without its quotes (and `L`), or what the table has under the name
 unfoldable pub primaryValue : (e t : List ℕ) → Token → Value
