@@ -28,7 +28,7 @@ pub record Like (t₁ t₂ : List ℕ) (m : ℕ) (l₁ l₂ : List ℕ) : Type 0
   pub word : directiveOf l₂ ≡ directiveOf l₁
   pub said : 3 ≤ m → says t₂ (directiveOf l₁) (textOf l₂) ≡ says t₁ (directiveOf l₁) (textOf l₁)
 
-never : (A : Type 0) (k n : ℕ) (ms : List ℕ) (c : ℕ) → refused k n ≡ accepted ms c → A
+pub never : (A : Type 0) (k n : ℕ) (ms : List ℕ) (c : ℕ) → refused k n ≡ accepted ms c → A
 never A k n ms c e = let z : _≡_ {A = ℕ} 0 1 = cc in absurd (omega arith)
 
 never-stops : (A : Type 0) (r m : ℕ) (s : State) → stop r ≡ go m s → A

@@ -6,3 +6,4 @@ pub mod Ends
 pub mod Turns
 pub mod Before
 pub mod Whole
+pub mod Isolated

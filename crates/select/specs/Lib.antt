@@ -1,3 +1,4 @@
 pub mod Step
 pub mod Select
 pub mod Running
+pub mod Isolation

@@ -1,0 +1,52 @@
+-- Isolation of a selection: lines that agree are heard the same, and two runs that hear the same go the same way. Assumes nothing.
+use Prim.Native.Nat.{ℕ, _≤_, _<_}
+use native.Mathlib.Omega.{arith}
+use mathlib.Core.Path.{_≡_, refl, sym, ap, _∙_}
+use mathlib.Core.Logic.{_↔_}
+use mathlib.Core.Bool.{Bool, true, false}
+use mathlib.Core.List.{List, []}
+use lib.ListN.{length, getD}
+use lib.Dec.{ltb}
+use borrow.Author.Tests.{ltb-true, ltb-false}
+use Rattle.text.specs.Bytes.{pick}
+use Rattle.settings.specs.Table.{wellFormed}
+use Rattle.line.specs.Lines.{lines}
+use Rattle.line.specs.Directives.{directiveOf, textOf}
+use Rattle.condition.specs.Conditions.{says}
+use Rattle.condition.proofs.Isolated.{same-says}
+use Rattle.select.specs.Select.{Result, accepted, refused, run, start, selection}
+use Rattle.select.specs.Isolation.{Read, Agrees, Comparable, Isolation}
+use Rattle.select.proofs.Alike.{Like, AllLike, never, same-run}
+use Rattle.select.proofs.Before.{runs}
+
+-- lines that agree are alike
+agree-like : (t₁ t₂ : List ℕ) (m : ℕ) (l₁ l₂ : List ℕ) → length l₂ ≤ 1024 → Agrees t₁ t₂ m l₁ l₂ → Like t₁ t₂ m l₁ l₂
+agree-like t₁ t₂ m l₁ l₂ h a =
+    record {
+      short = h;
+      word = a .word;
+      said = λ r. ap (λ l. says t₂ (directiveOf l₁) (textOf l)) (a .bytes r) ∙ sym (same-says t₁ t₂ (textOf l₁) (directiveOf l₁) (a .records r));
+    }
+
+-- an accepted selection passed every test before its lines
+accepted-runs : (f t : List ℕ) (room : ℕ) (ms : List ℕ) (c : ℕ) → selection f t room ≡ accepted ms c
+    → (run t 1 start (lines f) ≡ accepted ms c) × (length (lines f) ≤ 4096)
+unfolding selection
+accepted-runs f t room ms c h =
+    by (wellFormed t) (ltb 65536 (length f)) (ltb 4096 (length (lines f))) refl (ltb room (length (lines f))) h
+  where
+    by : (a b d : Bool) → ltb 4096 (length (lines f)) ≡ d → (e : Bool)
+        → pick a (pick b (refused 14 0) (pick d (refused 15 0) (pick e (refused 16 0) (run t 1 start (lines f))))) (refused 1 0) ≡ accepted ms c
+        → (run t 1 start (lines f) ≡ accepted ms c) × (length (lines f) ≤ 4096)
+    by true true d q e h = never _ 14 0 ms c h
+    by true false true q e h = never _ 15 0 ms c h
+    by true false false q true h = never _ 16 0 ms c h
+    by true false false q false h = (h, ltb-false 4096 (length (lines f)) q)
+    by false b d q e h = never _ 1 0 ms c h
+
+pub isolation : Isolation
+isolation f₁ t₁ room₁ ms c h f₂ t₂ room₂ k =
+    let p = accepted-runs f₁ t₁ room₁ ms c h in
+    let like : AllLike t₁ t₂ ms (lines f₁) (lines f₂) = λ i l. agree-like t₁ t₂ (getD ms i 0) (getD (lines f₁) i []) (getD (lines f₂) i []) (k .short i (omega (arith, k .as-many))) (k .agrees i l) in
+    runs f₂ t₂ room₂ (k .sound) (k .small) (omega (arith, p .1, k .as-many)) (k .enough)
+    ∙ same-run t₁ t₂ 1 start (lines f₁) (lines f₂) ms c (k .as-many) like (p .0)

@@ -1,0 +1,41 @@
+-- Isolation (document 00, demand 3; document 01, "For demand 3"): an accepted run depends on the directives that it reads, on the records
+-- under the names that these name, and on which words stand in which lines; on nothing else in the file or the table.
+-- proofs/Isolated.antt has the proof.
+use Prim.Native.Nat.{ℕ, _≤_, _<_}
+use mathlib.Core.Path.{_≡_}
+use mathlib.Core.Bool.{true}
+use mathlib.Core.List.{List, []}
+use lib.ListN.{length, getD}
+use Rattle.settings.specs.Table.{wellFormed}
+use Rattle.line.specs.Lines.{lines}
+use Rattle.line.specs.Directives.{directiveOf, textOf}
+use Rattle.condition.specs.Naming.{SameRecords}
+use Rattle.nesting.specs.Rules.{NOT-TAKEN}
+use Rattle.select.specs.Step.{MOST-LINE}
+use Rattle.select.specs.Select.{MOST-FILE, accepted, selection}
+
+-- a directive that is read has mark 3, 4 or 5, and any other line a mark below (`marks-tell` in proofs/Isolated.antt)
+abbrev pub Read : (mark : ℕ) → Type 0
+Read m = NOT-TAKEN ≤ m
+
+-- How a line l₂ of the second file agrees with the line l₁ of the same number, which the first run gave the mark m. Both are plain, or both
+-- have the same word, `elif` and `elseif` being one; a directive that was read is the same in both, and every name that it names has the
+-- same record in both tables, or none in either.
+pub record Agrees (t₁ t₂ : List ℕ) (m : ℕ) (l₁ l₂ : List ℕ) : Type 0 where
+  pub word : directiveOf l₂ ≡ directiveOf l₁
+  pub bytes : Read m → l₂ ≡ l₁
+  pub records : Read m → SameRecords t₁ t₂ (directiveOf l₁) (textOf l₁)
+
+-- What is asked of a second file and table, and of the room for its marks, where the first run gave the marks ms.
+pub record Comparable (f₁ t₁ : List ℕ) (ms : List ℕ) (f₂ t₂ : List ℕ) (room : ℕ) : Type 0 where
+  pub as-many : length (lines f₂) ≡ length (lines f₁)
+  pub agrees : (i : ℕ) → i < length (lines f₁) → Agrees t₁ t₂ (getD ms i 0) (getD (lines f₁) i []) (getD (lines f₂) i [])
+  pub sound : wellFormed t₂ ≡ true
+  pub small : length f₂ ≤ MOST-FILE
+  pub short : (i : ℕ) → i < length (lines f₂) → length (getD (lines f₂) i []) ≤ MOST-LINE
+  pub enough : length (lines f₂) ≤ room
+
+-- then the second run is accepted too, with the same marks and the same count
+abbrev pub Isolation : Type 0
+Isolation = (f₁ t₁ : List ℕ) (room₁ : ℕ) (ms : List ℕ) (c : ℕ) → selection f₁ t₁ room₁ ≡ accepted ms c
+    → (f₂ t₂ : List ℕ) (room₂ : ℕ) → Comparable f₁ t₁ ms f₂ t₂ room₂ → selection f₂ t₂ room₂ ≡ accepted ms c
