@@ -1,6 +1,7 @@
 // The calls that C, Rust and Python see. Each passes on a call of the layers below and writes its answer into a lent array.
 mod expressions;
 mod fields;
+mod selections;
 
 use settings::Setting;
 use token::scan;

@@ -1,5 +1,5 @@
 -- Isolation of a selection: lines that agree are heard the same, and two runs that hear the same go the same way. Assumes nothing.
-use Prim.Native.Nat.{ℕ, _≤_, _<_}
+use Prim.Native.Nat.{ℕ, _+_, _≤_, _<_}
 use native.Mathlib.Omega.{arith}
 use mathlib.Core.Path.{_≡_, refl, sym, ap, _∙_}
 use mathlib.Core.Logic.{_↔_}
@@ -9,13 +9,18 @@ use lib.ListN.{length, getD}
 use lib.Dec.{ltb}
 use borrow.Author.Tests.{ltb-true, ltb-false}
 use Rattle.text.specs.Bytes.{pick}
+use Rattle.text.proofs.Laws.{pick-case}
 use Rattle.settings.specs.Table.{wellFormed}
 use Rattle.line.specs.Lines.{lines}
 use Rattle.line.specs.Directives.{directiveOf, textOf}
-use Rattle.condition.specs.Conditions.{says}
+use Rattle.condition.specs.Conditions.{says, countOf}
 use Rattle.condition.proofs.Isolated.{same-says}
+use Rattle.nesting.specs.Groups.{standingOf, reads}
+use Rattle.nesting.specs.Decide.{State}
+use Rattle.nesting.proofs.Decided.{Marked, Unmarked, read-marked, unread-marked}
+use Rattle.select.specs.Step.{heard, step}
 use Rattle.select.specs.Select.{Result, accepted, refused, run, start, selection}
-use Rattle.select.specs.Isolation.{Read, Agrees, Comparable, Isolation}
+use Rattle.select.specs.Isolation.{MarksTell, Read, Agrees, Comparable, Isolation}
 use Rattle.select.proofs.Alike.{Like, AllLike, never, same-run}
 use Rattle.select.proofs.Before.{runs}
 
@@ -50,3 +55,24 @@ isolation f₁ t₁ room₁ ms c h f₂ t₂ room₂ k =
     let like : AllLike t₁ t₂ ms (lines f₁) (lines f₂) = λ i l. agree-like t₁ t₂ (getD ms i 0) (getD (lines f₁) i []) (getD (lines f₂) i []) (k .short i (omega (arith, k .as-many))) (k .agrees i l) in
     runs f₂ t₂ room₂ (k .sound) (k .small) (omega (arith, p .1, k .as-many)) (k .enough)
     ∙ same-run t₁ t₂ 1 start (lines f₁) (lines f₂) ms c (k .as-many) like (p .0)
+
+-- a line's mark tells whether its directive was read
+module _ (t : List ℕ) (n : ℕ) (s : State) (l : List ℕ) where
+  read-above : reads (directiveOf l) (standingOf (s .groups)) ≡ true → Marked (step t n s l)
+  unfolding step
+  read-above h =
+      pick-case Marked (ltb 1024 (length l)) (λ _. tt)
+      (λ _. read-marked (directiveOf l) (heard t (s .groups) l) n (s .count + countOf (heard t (s .groups) l)) (s .groups) h)
+
+  unread-below : reads (directiveOf l) (standingOf (s .groups)) ≡ false → Unmarked (step t n s l)
+  unfolding step
+  unread-below h =
+      pick-case Unmarked (ltb 1024 (length l)) (λ _. tt)
+      (λ _. unread-marked (directiveOf l) (heard t (s .groups) l) n (s .count + countOf (heard t (s .groups) l)) (s .groups) h)
+
+pub marks-tell : MarksTell
+marks-tell t n s l m s′ e = (λ h. rw e at (read-above t n s l h), by (reads (directiveOf l) (standingOf (s .groups))) refl)
+  where
+    by : (b : Bool) → reads (directiveOf l) (standingOf (s .groups)) ≡ b → 3 ≤ m → b ≡ true
+    by true q h = refl
+    by false q h = let z : m ≤ 2 = rw e at (unread-below t n s l q) in absurd (omega arith)

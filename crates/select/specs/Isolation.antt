@@ -3,6 +3,7 @@
 -- proofs/Isolated.antt has the proof.
 use Prim.Native.Nat.{ℕ, _≤_, _<_}
 use mathlib.Core.Path.{_≡_}
+use mathlib.Core.Logic.{_↔_}
 use mathlib.Core.Bool.{true}
 use mathlib.Core.List.{List, []}
 use lib.ListN.{length, getD}
@@ -11,12 +12,18 @@ use Rattle.line.specs.Lines.{lines}
 use Rattle.line.specs.Directives.{directiveOf, textOf}
 use Rattle.condition.specs.Naming.{SameRecords}
 use Rattle.nesting.specs.Rules.{NOT-TAKEN}
-use Rattle.select.specs.Step.{MOST-LINE}
+use Rattle.nesting.specs.Groups.{standingOf, reads}
+use Rattle.nesting.specs.Decide.{State, go}
+use Rattle.select.specs.Step.{MOST-LINE, step}
 use Rattle.select.specs.Select.{MOST-FILE, accepted, selection}
 
--- a directive that is read has mark 3, 4 or 5, and any other line a mark below (`marks-tell` in proofs/Isolated.antt)
+-- a directive that is read has mark 3, 4 or 5, and any other line a mark below
 abbrev pub Read : (mark : ℕ) → Type 0
 Read m = NOT-TAKEN ≤ m
+
+-- which is promised of every line that has a mark
+abbrev pub MarksTell : Type 0
+MarksTell = (t : List ℕ) (n : ℕ) (s : State) (l : List ℕ) (m : ℕ) (s′ : State) → step t n s l ≡ go m s′ → (reads (directiveOf l) (standingOf (s .groups)) ≡ true) ↔ Read m
 
 -- How a line l₂ of the second file agrees with the line l₁ of the same number, which the first run gave the mark m. Both are plain, or both
 -- have the same word, `elif` and `elseif` being one; a directive that was read is the same in both, and every name that it names has the

@@ -1,0 +1,63 @@
+-- The whole case of document 01 ("Lines and directives"): antt computes its marks, its count and its refusal from the definitions. Then
+-- the year window of document 00, written as it never holds and as it was meant.
+use Prim.Native.Nat.{ℕ}
+use Prim.Native.String.{String}
+use mathlib.Core.Path.{_≡_, refl}
+use mathlib.Core.List.{List, [], _∷_, _++_}
+use lib.ListN.{replicate}
+use Rattle.units.specs.Refusals.{DIVISOR-ZERO}
+use Rattle.text.specs.Bytes.{bytes, classOf}
+use Rattle.text.specs.Runs.{span}
+use Rattle.text.specs.Order.{compared}
+use Rattle.text.specs.Names.{macroName, pcdName}
+use Rattle.settings.specs.Table.{recordsIn, zeros, isName, soundName, soundKind, soundRecord, sound, ascending, wellFormed}
+use Rattle.settings.specs.Setting.{littleEndian, held, underAt, under}
+use Rattle.lexeme.specs.Lexeme.{digitOf, valueIn, literal, isDecimal, isHexadecimal, hexadecimalOf, numberOf, stringOf, stringAt, spelled, isWide, wordOf, macroOf, begins, leading, lexemeBy, lexeme}
+use Rattle.token.specs.Tokens.{readToken, readByte, readFrom, tooDeep, checkDepth, reading}
+use Rattle.arithmetic.specs.Digits.{andDigits, orDigits}
+use Rattle.arithmetic.specs.Operators.{changed, applied, comparison, numbers}
+use Rattle.grammar.specs.Grammar.{isPrimary, isUnary, levelOf}
+use Rattle.grammar.specs.Parse.{run as runGoal, parse}
+use Rattle.grammar.specs.Bars.{barOutside}
+use Rattle.value.specs.Kinds.{unaryKind, binaryKind, choiceKind}
+use Rattle.value.specs.Values.{primaryValue, missingPcd, unaryValue, bothValues, binaryValue, choiceValue}
+use Rattle.evaluation.specs.Evaluation.{inSoundTable, ofTokens}
+use Rattle.line.specs.Lines.{onto, endsLine, lines}
+use Rattle.line.specs.Directives.{named, wordStart, textStart, directiveOf}
+use Rattle.condition.specs.Conditions.{idle, ofAnswer, expressionSays, nameAt, namedSays, nameSays, says}
+use Rattle.nesting.specs.Groups.{reads}
+use Rattle.nesting.specs.Rules.{elseifRuling, elseRuling, endRuling}
+use Rattle.nesting.specs.Decide.{opening, decided}
+use Rattle.select.specs.Step.{heard, step}
+use Rattle.select.specs.Select.{Result, accepted, refused, run, selection}
+
+-- a table of one number, below 256, under a name of three or four letters
+abbrev pub setting : String → (padding : ℕ) → ℕ → List ℕ
+setting name p x = bytes name ++ replicate p 0 ++ (0 ∷ 8 ∷ []) ++ replicate 6 0 ++ (x ∷ []) ++ replicate 55 0
+
+abbrev pub file : List ℕ
+file = bytes "!if $(FOO) == 2\nA\n!elseif 1 / 0\nB\n!else\nC\n!endif\nD\n"
+
+-- a watchdog's driver from week 48 to week 5
+abbrev pub never : List ℕ
+never = bytes "!if $(WEEK) GE 48 AND $(WEEK) LE 5\nWatchdog\n!endif\n"
+
+abbrev pub meant : List ℕ
+meant = bytes "!if $(WEEK) GE 48 OR $(WEEK) LE 5\nWatchdog\n!endif\n"
+
+-- with room for eight marks
+abbrev pub results : List Result
+results =
+    selection file (setting "FOO" 61 2) 8
+    ∷ selection file (setting "FOO" 61 3) 8
+    ∷ selection never (setting "WEEK" 60 50) 8
+    ∷ selection meant (setting "WEEK" 60 50) 8
+    ∷ []
+
+pub results-hold : results ≡ accepted (4 ∷ 1 ∷ 2 ∷ 0 ∷ 3 ∷ 0 ∷ 5 ∷ 1 ∷ []) 1
+    ∷ refused DIVISOR-ZERO 3
+    ∷ accepted (3 ∷ 0 ∷ 5 ∷ []) 3
+    ∷ accepted (4 ∷ 1 ∷ 5 ∷ []) 2
+    ∷ []
+unfolding selection run step heard opening decided elseifRuling elseRuling endRuling reads onto endsLine lines named wordStart textStart directiveOf says expressionSays nameSays namedSays nameAt idle ofAnswer inSoundTable ofTokens barOutside recordsIn zeros isName soundName soundKind soundRecord sound ascending wellFormed littleEndian held underAt under reading readToken readByte readFrom tooDeep checkDepth classOf span compared macroName pcdName digitOf valueIn literal isDecimal isHexadecimal hexadecimalOf numberOf stringOf stringAt spelled isWide wordOf macroOf begins leading lexemeBy lexeme isPrimary isUnary levelOf runGoal parse unaryKind binaryKind choiceKind andDigits orDigits changed applied comparison numbers primaryValue missingPcd unaryValue bothValues binaryValue choiceValue
+results-hold = refl
