@@ -4,8 +4,9 @@ use native.Mathlib.Omega.{arith}
 use mathlib.Core.Path.{_≡_, refl, sym, ap, _∙_}
 use mathlib.Core.Logic.{_↔_}
 use mathlib.Core.Bool.{Bool, true, false}
-use mathlib.Core.List.{List, []}
-use lib.ListN.{length, getD}
+use mathlib.Core.List.{List, [], _++_}
+use lib.ListN.{length, getD, take, drop}
+use lib.Seq.{take-at}
 use lib.Dec.{ltb}
 use borrow.Author.Tests.{ltb-true, ltb-false}
 use Rattle.text.specs.Bytes.{pick}
@@ -19,8 +20,10 @@ use Rattle.nesting.specs.Groups.{standingOf, reads}
 use Rattle.nesting.specs.Decide.{State}
 use Rattle.nesting.proofs.Decided.{Marked, Unmarked, read-marked, unread-marked}
 use Rattle.select.specs.Step.{heard, step}
-use Rattle.select.specs.Select.{Result, accepted, refused, run, start, selection}
-use Rattle.select.specs.Isolation.{MarksTell, Read, Agrees, Comparable, Isolation}
+use Rattle.select.specs.Select.{Result, accepted, refused, run, start, selection, answerOf, Selects}
+use Rattle.select.specs.declared.Answer.{Answer}
+use Rattle.select.specs.declared.Answer.the-variants.{Accepted, Refused}
+use Rattle.select.specs.Isolation.{MarksTell, Read, Agrees, Comparable, Isolation, TwoCalls}
 use Rattle.select.proofs.Alike.{Like, AllLike, never, same-run}
 use Rattle.select.proofs.Before.{runs}
 
@@ -76,3 +79,25 @@ marks-tell t n s l m s′ e = (λ h. rw e at (read-above t n s l h), by (reads (
     by : (b : Bool) → reads (directiveOf l) (standingOf (s .groups)) ≡ b → 3 ≤ m → b ≡ true
     by true q h = refl
     by false q h = let z : m ≤ 2 = rw e at (unread-below t n s l q) in absurd (omega arith)
+
+-- an accepted answer, and the marks that its call left
+accepted-call : (f t marks : List ℕ) (r : Answer) (left : List ℕ) → Selects f t marks r left → (n c : ℕ) → r ≡ Accepted n c
+    → (selection f t (length marks) ≡ accepted (take n left) c) × (length (take n left) ≡ n)
+accepted-call f t marks r left h n c e = by (selection f t (length marks)) refl
+  where
+    by : (w : Result) → selection f t (length marks) ≡ w → (selection f t (length marks) ≡ accepted (take n left) c) × (length (take n left) ≡ n)
+    by (refused k j) q = let z : _≡_ {A = ℕ} 0 1 = cc (h .answer) in absurd (omega arith)
+    by (accepted ms d) q =
+        let a : Accepted n c ≡ Accepted (length ms) d = sym e ∙ h .answer ∙ rw q in
+        let i : length ms ≡ n = cc in
+        let j : c ≡ d = cc in
+        let m : left ≡ ms ++ drop (length ms) marks = h .marks-are ∙ rw q in
+        let k : take n left ≡ ms = ap (take n) m ∙ take-at ms (drop (length ms) marks) n i in
+        (rw (k, j) q, ap length k ∙ i)
+
+pub two-calls : TwoCalls
+two-calls f₁ t₁ marks₁ r₁ left₁ h₁ n c e f₂ t₂ marks₂ r₂ left₂ h₂ k =
+    let p = accepted-call f₁ t₁ marks₁ r₁ left₁ h₁ n c e in
+    let q = isolation f₁ t₁ (length marks₁) (take n left₁) c (p .0) f₂ t₂ (length marks₂) k in
+    let m : left₂ ≡ take n left₁ ++ drop (length (take n left₁)) marks₂ = h₂ .marks-are ∙ rw q in
+    (h₂ .answer ∙ rw (q, p .1), ap (take n) m ∙ take-at (take n left₁) (drop (length (take n left₁)) marks₂) n (p .1))

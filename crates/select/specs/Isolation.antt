@@ -6,7 +6,7 @@ use mathlib.Core.Path.{_≡_}
 use mathlib.Core.Logic.{_↔_}
 use mathlib.Core.Bool.{true}
 use mathlib.Core.List.{List, []}
-use lib.ListN.{length, getD}
+use lib.ListN.{length, getD, take}
 use Rattle.settings.specs.Table.{wellFormed}
 use Rattle.line.specs.Lines.{lines}
 use Rattle.line.specs.Directives.{directiveOf, textOf}
@@ -15,7 +15,9 @@ use Rattle.nesting.specs.Rules.{NOT-TAKEN}
 use Rattle.nesting.specs.Groups.{standingOf, reads}
 use Rattle.nesting.specs.Decide.{State, go}
 use Rattle.select.specs.Step.{MOST-LINE, step}
-use Rattle.select.specs.Select.{MOST-FILE, accepted, selection}
+use Rattle.select.specs.Select.{MOST-FILE, accepted, selection, Selects}
+use Rattle.select.specs.declared.Answer.{Answer}
+use Rattle.select.specs.declared.Answer.the-variants.{Accepted}
 
 -- a directive that is read has mark 3, 4 or 5, and any other line a mark below
 abbrev pub Read : (mark : ℕ) → Type 0
@@ -46,3 +48,12 @@ pub record Comparable (f₁ t₁ : List ℕ) (ms : List ℕ) (f₂ t₂ : List �
 abbrev pub Isolation : Type 0
 Isolation = (f₁ t₁ : List ℕ) (room₁ : ℕ) (ms : List ℕ) (c : ℕ) → selection f₁ t₁ room₁ ≡ accepted ms c
     → (f₂ t₂ : List ℕ) (room₂ : ℕ) → Comparable f₁ t₁ ms f₂ t₂ room₂ → selection f₂ t₂ room₂ ≡ accepted ms c
+
+-- The same of two calls: what the first one answered and left in its marks, and what the second one answers and leaves in its own, which
+-- may be more or fewer.
+abbrev pub TwoCalls : Type 0
+TwoCalls = (f₁ t₁ marks₁ : List ℕ) (r₁ : Answer) (left₁ : List ℕ) → Selects f₁ t₁ marks₁ r₁ left₁
+    → (n c : ℕ) → r₁ ≡ Accepted n c
+    → (f₂ t₂ marks₂ : List ℕ) (r₂ : Answer) (left₂ : List ℕ) → Selects f₂ t₂ marks₂ r₂ left₂
+    → Comparable f₁ t₁ (take n left₁) f₂ t₂ (length marks₂)
+    → (r₂ ≡ Accepted n c) × (take n left₂ ≡ take n left₁)
