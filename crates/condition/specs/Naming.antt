@@ -1,5 +1,5 @@
--- The names that a directive's text names where it is read (document 01, "For demand 3"): every macro and PCD among the tokens of a
--- condition, in skipped operands too, and the macro of an `!ifdef` or `!ifndef`.
+-- The names that a directive's text names where it is read (document 01, "For demand 3"): of a condition those of all its macros and PCDs,
+-- skipped or not, and of an `!ifdef` or `!ifndef` its one macro.
 use Prim.Native.Nat.{ℕ}
 use mathlib.Core.Path.{_≡_}
 use mathlib.Core.List.{List}
@@ -31,6 +31,6 @@ Mentions Endif s n = ⊥
 Mentions Plain s n = ⊥
 Mentions Unknown s n = ⊥
 
--- every name that it names has the same record in both tables, or none in either
+-- both tables have one record under each name that it names, byte for byte, or both have none
 abbrev pub SameRecords : (t₁ t₂ : List ℕ) → Directive → List ℕ → Type 0
 SameRecords t₁ t₂ d s = (n : List ℕ) → Mentions d s n → recordUnder t₁ n ≡ recordUnder t₂ n

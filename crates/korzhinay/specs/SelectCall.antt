@@ -4,20 +4,15 @@ use mathlib.Core.Path.{_≡_}
 use mathlib.Core.List.{List, [], _∷_}
 use lib.ListN.{length}
 use Rattle.token.specs.Tokens.{stored}
-use Rattle.select.specs.Select.{Result, accepted, refused, selection, marksOf}
+use Rattle.select.specs.Select.{selection, answerOf, refusalNumber, lineOf, linesOf, countOf, marksOf}
+use Rattle.select.specs.declared.Answer.{Answer}
 
--- the refusal's number, 0 where the selection is accepted
-abbrev pub resultNumber : Result → ℕ
-resultNumber (accepted ms c) = 0
-resultNumber (refused k n) = k
-
--- the refusal's line, the number of lines, the sum of counts
-abbrev pub resultShown : Result → List ℕ
-resultShown (accepted ms c) = 0 ∷ length ms ∷ c ∷ []
-resultShown (refused k n) = n ∷ 0 ∷ 0 ∷ []
+-- the line of a refusal, the number of lines, the sum of counts
+abbrev pub answerShown : Answer → List ℕ
+answerShown a = lineOf a ∷ linesOf a ∷ countOf a ∷ []
 
 -- a selection over a file f and a table t
 pub record Marks (f t marks out : List ℕ) (r : ℕ) (marks′ out′ : List ℕ) : Type 0 where
-  pub refused-with : r ≡ resultNumber (selection f t (length marks))
-  pub shown : out′ ≡ stored (resultShown (selection f t (length marks))) out
+  pub refused-with : r ≡ refusalNumber (answerOf (selection f t (length marks)))
+  pub shown : out′ ≡ stored (answerShown (answerOf (selection f t (length marks)))) out
   pub marks-are : marks′ ≡ marksOf marks (selection f t (length marks))

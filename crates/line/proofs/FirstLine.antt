@@ -130,7 +130,7 @@ module _ (f : List ℕ) (a e : ℕ) where
       → Cuts f a (record { end = record { 0 = z }; after = record { 0 = e + 1 } })
   cuts h at z q =
       let within = end-within (omega arith) (lf-fits h at) in
-      record { first = rw q (cut-off h at); starts = rw q (within .0); within = rw q (within .1); onward = omega arith }
+      record { first = rw q (cut-off h at); starts = rw q (within .0); within = rw q (within .1); onward = omega arith; after-is = rw at }
 
   -- the ways in which the code finds its end: no LF, no byte before the LF, no CR there, and a CR
   pub end-no-lf : length f ≤ e → e ≡ lineEnd f a e

@@ -63,6 +63,11 @@ module _ (l : List ℕ) {first : ℕ} (at : first ≡ 0 + span Blanks l) where
       let past : length l ≤ first + 1 + span Letters (drop (first + 1) l) = omega arith in
       rw word-start (drop-of-length-le l past)
 
+  -- where there is none, the text starts past the line
+  pub past-text : length l ≤ first → textStart l ≤ length l → ⊥
+  unfolding textStart
+  past-text h k = omega (arith, word-start)
+
   -- the letters behind that byte go up to `after`
   module _ {after : ℕ} (to : after ≡ first + 1 + span Letters (drop (first + 1) l)) where
     pub word-inside : first < length l → after ≤ length l
@@ -73,6 +78,10 @@ module _ (l : List ℕ) {first : ℕ} (at : first ≡ 0 + span Blanks l) where
     marked-line h =
         let n : after - (first + 1) ≡ span Letters (drop (first + 1) l) = omega arith in
         rw (blanks, eq-eqb _ _ h, word-start, n)
+
+    pub text-starts : after ≡ textStart l
+    unfolding textStart
+    text-starts = rw (word-start, ← to)
 
     pub text-from : take (length l - after) (drop after l) ≡ drop (textStart l) l
     unfolding textStart

@@ -1,21 +1,32 @@
 -- A file cut into its lines from the front: what functions between the layers promise each other.
-use Prim.Native.Nat.{ℕ, _-_, _≤_, _<_}
+use Prim.Native.Nat.{ℕ, _+_, _-_, _≤_, _<_}
 use mathlib.Core.Path.{_≡_}
 use mathlib.Core.Bool.{_&&_}
 use mathlib.Core.List.{List, _∷_}
 use lib.ListN.{length, getD, take, drop}
 use lib.Dec.{eqb, ltb}
+use denote.Ref.{RefT, ptr, now}
 use Rattle.text.specs.Bytes.{byte, pick}
+use Rattle.text.specs.Runs.{span}
+use Rattle.text.specs.declared.runs.Set.the-variants.{Line}
 use Rattle.line.specs.Lines.{lines}
+use Rattle.line.specs.Directives.{textStart, textOf}
 use Rattle.line.specs.declared.cut.Cut.{Cut}
 
--- The line that starts at a byte is cut off: its bytes are those up to `end`, and the other lines are those from `after` on, which lies
--- past the file's end where there are none.
+-- The line that starts at a byte is cut off: its bytes are those up to `end`, and the other lines are those from `after` on, the byte
+-- behind its LF, or one past the file's end where it has none.
 pub record Cuts (f : List ℕ) (from : ℕ) (r : Cut) : Type 0 where
   pub first : lines (drop from f) ≡ take (r .end .0 - from) (drop from f) ∷ lines (drop (r .after .0) f)
   pub starts : from ≤ r .end .0
   pub within : r .end .0 ≤ length f
   pub onward : from < r .after .0
+  pub after-is : r .after .0 ≡ from + span Line (drop from f) + 1
+
+-- The text after a line's word is handed on as a part of the line: its bytes, and its place in memory where the word ends within the line.
+pub record HandsText (l r : RefT (List ℕ)) : Type 0 where
+  pub bytes : now r ≡ textOf (now l)
+  pub block : ptr r .0 ≡ ptr l .0
+  pub offset : textStart (now l) ≤ length (now l) → ptr r .1 ≡ ptr l .1 + textStart (now l)
 
 -- Where the line ends that starts at a byte and whose LF, or else the file's end, is at byte lf: a CR of the line directly before an LF
 -- is dropped. (The contract of a private function cites this; no public promise does.)

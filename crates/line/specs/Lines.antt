@@ -1,5 +1,5 @@
--- The lines of a file (document 01, "Lines and directives"): a line ends at an LF, and one CR directly before that LF is no part of it;
--- bytes after the last LF make a line only if there are any.
+-- The lines of a file (document 01, "Lines and directives"). An LF ends a line, and takes a CR with it that stands right before it. What
+-- follows the last LF is a line too, unless nothing does.
 use Prim.Native.Nat.{ℕ}
 use mathlib.Core.Bool.{Bool, false, _&&_}
 use mathlib.Core.List.{List, [], _∷_}

@@ -8,7 +8,7 @@ ghost use lib.ListN.{length};
 ghost use Rattle.line.specs.Lines.{lines};
 ghost use Rattle.line.specs.Cutting.{lineEnd, Cuts};
 
-// Where a line ends, and where the one after it starts: past the file's end if there is none.
+// Where a line ends, and where the one after it starts: at the file's end or past it if there is none.
 pub struct Cut {
     pub end: Offset,
     pub after: Offset,

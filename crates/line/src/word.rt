@@ -7,7 +7,8 @@ use text::runs::Set;
 ghost use mathlib.Core.Path.{_≡_};
 ghost use Rattle.text.specs.Bytes.{pick};
 ghost use Rattle.text.specs.Order.{alike};
-ghost use Rattle.line.specs.Directives.{words, named as namedIn, textOf, directiveOf};
+ghost use Rattle.line.specs.Directives.{words, named as namedIn, directiveOf};
+ghost use Rattle.line.specs.Cutting.{HandsText};
 
 // The first of two answers where a word is spelled so, else the second.
 fn spelled(w: &[u8], text: &[u8], this: Directive, other: Directive) -> Directive
@@ -60,7 +61,7 @@ pub fn directive(line: &[u8]) -> Directive
 
 // The text after a line's word, up to the line's end. What it is for a line without a word is fixed too, so that any line may be asked.
 pub fn text(line: &[u8]) -> &[u8]
-    ensures { λ r. ⌜ now r ≡ textOf (now (line .entry)) ⌝ }
+    ensures { λ r. ⌜ HandsText (line .entry) r ⌝ }
 {
     let first = runs::run_end(line, 0, Set::Blanks);
     if line.len() <= first {

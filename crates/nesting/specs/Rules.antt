@@ -43,7 +43,7 @@ turned (Holds n) = Turn TAKEN Taken
 turned (Fails n) = Stay NOT-TAKEN
 turned (Wrong k) = Refuse k
 
--- an `!elseif` needs an open group whose `!else` was not met
+-- an `!elseif` by how its group stands, which has to be open
 abbrev pub elseifIn : Condition → Standing → Ruling
 elseifIn c Outside = Refuse DIRECTIVE-STRAY
 elseifIn c Dead = Stay UNREAD
@@ -51,10 +51,11 @@ elseifIn c Seeking = turned c
 elseifIn c Taken = Turn UNREAD Past
 elseifIn c Past = Stay UNREAD
 
+-- and whose `!else` was not met
 unfoldable pub elseifRuling : Condition → Standing → (closed : Bool) → Ruling
 elseifRuling c s closed = pick closed (Refuse DIRECTIVE-STRAY) (elseifIn c s)
 
--- and so does an `!else`
+-- an `!else`, likewise
 abbrev pub elseIn : Condition → Standing → Ruling
 elseIn c Outside = Refuse DIRECTIVE-STRAY
 elseIn c Dead = Final UNREAD Dead
@@ -62,6 +63,7 @@ elseIn c Seeking = unless c (Final TAKEN Taken)
 elseIn c Taken = unless c (Final NOT-TAKEN Past)
 elseIn c Past = unless c (Final NOT-TAKEN Past)
 
+-- a second one is stray too
 unfoldable pub elseRuling : Condition → Standing → (closed : Bool) → Ruling
 elseRuling c s closed = pick closed (Refuse DIRECTIVE-STRAY) (elseIn c s)
 

@@ -8,7 +8,7 @@ use lib.ListN.{length, getD}
 use lib.Dec.{eqb, leb}
 use Rattle.text.specs.Bytes.{pick}
 use Rattle.nesting.specs.Groups.{Group, group}
-use Rattle.nesting.specs.Decide.{State, Outcome, go, stop}
+use Rattle.nesting.specs.Decide.{MOST-GROUPS, State, Outcome, go, stop}
 use Rattle.nesting.specs.declared.Standing.{Standing}
 use Rattle.nesting.specs.declared.Standing.the-variants.{Outside, Dead, Seeking, Taken, Past}
 use Rattle.nesting.specs.declared.Selection.{Selection}
@@ -46,13 +46,13 @@ Stacked (group s b n ∷ gs) ss ls = (getD ss (length gs) 0 ≡ entryOf s b) × 
 -- the code's selection is this state
 pub record Represents (x : Selection) (s : State) : Type 0 where
   pub depth : x .depth ≡ length (s .groups)
-  pub shallow : length (s .groups) ≤ 16
+  pub shallow : length (s .groups) ≤ MOST-GROUPS
   pub count : x .count ≡ s .count
   pub stacked : Stacked (s .groups) (x .standings) (x .lines)
   pub standings-long : length (x .standings) ≡ 16
   pub lines-long : length (x .lines) ≡ 16
 
--- the code's step is this outcome
-abbrev pub Meets : Step → Outcome → Type 0
-Meets x (go m s) = (x .ok ≡ true) × (x .mark ≡ m) × Represents (x .next) s
-Meets x (stop r) = (x .ok ≡ false) × (x .number ≡ r)
+-- the code's step from a selection x is this outcome; a refusal leaves the selection
+abbrev pub Meets : (x : Selection) → Step → Outcome → Type 0
+Meets x z (go m s) = (z .ok ≡ true) × (z .mark ≡ m) × Represents (z .next) s × (z .number ≡ 0)
+Meets x z (stop r) = (z .ok ≡ false) × (z .number ≡ r) × (z .mark ≡ 0) × (z .next ≡ x)

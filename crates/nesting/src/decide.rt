@@ -14,7 +14,7 @@ ghost use Rattle.nesting.specs.Stack.{Represents, Meets};
 // A new group in line n: 20 before anything its text says.
 fn open_group(c: Condition, n: LineNumber, x: Selection) -> Step
     requires { ⌜ (x .depth ≤ 16) × (n .0 < 65536) ⌝ }
-    ensures { λ z. ⌜ ((t : State) → Represents x t → Meets z (opening c (n .0) (t .count) (t .groups))) ⌝ }
+    ensures { λ z. ⌜ ((t : State) → Represents x t → Meets x z (opening c (n .0) (t .count) (t .groups))) ⌝ }
 {
     let depth = x.depth;
     if 16 <= depth {
@@ -33,7 +33,7 @@ fn open_group(c: Condition, n: LineNumber, x: Selection) -> Step
 // A plain line.
 fn plain(x: Selection) -> Step
     requires { ⌜ x .depth ≤ 16 ⌝ }
-    ensures { λ z. ⌜ ((t : State) → Represents x t → Meets z (plainOf (t .count) (t .groups))) ⌝ }
+    ensures { λ z. ⌜ ((t : State) → Represents x t → Meets x z (plainOf (t .count) (t .groups))) ⌝ }
 {
     if rules::live(stack::standing(x)) {
         return stack::went(rules::KEPT, x);
@@ -44,7 +44,7 @@ fn plain(x: Selection) -> Step
 // Line n with its directive and what its text says.
 pub fn decide(d: Directive, c: Condition, n: LineNumber, x: Selection) -> Step
     requires { ⌜ (x .depth ≤ 16) × (n .0 < 65536) ⌝ }
-    ensures { λ z. ⌜ ((t : State) → Represents x t → Meets z (decided d c (n .0) (t .count) (t .groups))) ⌝ }
+    ensures { λ z. ⌜ ((t : State) → Represents x t → Meets x z (decided d c (n .0) (t .count) (t .groups))) ⌝ }
 {
     match d {
         Directive::Plain => plain(x),

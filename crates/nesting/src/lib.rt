@@ -3,7 +3,7 @@ pub mod decide;
 pub mod rules;
 pub mod stack;
 
-// How the innermost open group stands.
+// How an open group stands, or that none is open.
 pub enum Standing {
     // no group is open
     Outside,
@@ -36,7 +36,7 @@ pub struct Selection {
     pub lines: [u16; 16],
 }
 
-// What a line comes to: its mark and the selection after it, or the number of the refusal, and then the selection as it was.
+// What a line comes to: its mark and the selection after it, or the number of the refusal, and then the selection as it was and the mark 0.
 pub struct Step {
     pub ok: bool,
     pub number: u8,

@@ -123,7 +123,7 @@ fn pop(x: Selection) -> Selection
 
 // A line that is marked so, with the selection after it.
 pub fn went(mark: u8, next: Selection) -> Step
-    ensures { λ r. ⌜ ((t : State) → Represents next t → Meets r (go mark t)) ⌝ }
+    ensures { λ r. ⌜ ((x : Selection) (t : State) → Represents next t → Meets x r (go mark t)) ⌝ }
 {
     Step {
         ok: true,
@@ -135,7 +135,7 @@ pub fn went(mark: u8, next: Selection) -> Step
 
 // A line that is refused.
 pub fn refused(number: u8, x: Selection) -> Step
-    ensures { λ r. ⌜ Meets r (stop number) ⌝ }
+    ensures { λ r. ⌜ Meets x r (stop number) ⌝ }
 {
     Step {
         ok: false,
@@ -148,7 +148,7 @@ pub fn refused(number: u8, x: Selection) -> Step
 // A ruling on the innermost group.
 pub fn apply(r: Ruling, x: Selection) -> Step
     requires { ⌜ x .depth ≤ 16 ⌝ }
-    ensures { λ z. ⌜ ((t : State) → Represents x t → Meets z (applied r (t .count) (t .groups))) ⌝ }
+    ensures { λ z. ⌜ ((t : State) → Represents x t → Meets x z (applied r (t .count) (t .groups))) ⌝ }
 {
     match r {
         Ruling::Stay(mark) => went(mark, x),

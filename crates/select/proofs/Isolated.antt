@@ -37,7 +37,7 @@ agree-like t₁ t₂ m l₁ l₂ h a =
     }
 
 -- an accepted selection passed every test before its lines
-accepted-runs : (f t : List ℕ) (room : ℕ) (ms : List ℕ) (c : ℕ) → selection f t room ≡ accepted ms c
+pub accepted-runs : (f t : List ℕ) (room : ℕ) (ms : List ℕ) (c : ℕ) → selection f t room ≡ accepted ms c
     → (run t 1 start (lines f) ≡ accepted ms c) × (length (lines f) ≤ 4096)
 unfolding selection
 accepted-runs f t room ms c h =

@@ -7,3 +7,4 @@ pub mod Turns
 pub mod Before
 pub mod Whole
 pub mod Isolated
+pub mod Marked

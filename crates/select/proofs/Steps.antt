@@ -4,7 +4,7 @@ use Prim.Native.Nat.{ℕ, _+_, _≤_, _<_}
 use native.Mathlib.Omega.{arith}
 use native.Mathlib.Nat.{add-zero}
 use mathlib.Core.Path.{_≡_, refl, sym, ap, _∙_}
-use mathlib.Core.Bool.{true, false}
+use mathlib.Core.Bool.{true, false, false≢true}
 use mathlib.Core.List.{List}
 use lib.ListN.{length}
 use lib.Dec.{ltb}
@@ -19,6 +19,9 @@ use Rattle.condition.specs.declared.Condition.the-variants.{Fails}
 use Rattle.condition.proofs.Counts.{count-small}
 use Rattle.nesting.specs.Groups.{Group, standingOf, reads}
 use Rattle.nesting.specs.Decide.{State, Outcome, go, stop, decided}
+use Rattle.nesting.specs.Stack.{Meets}
+use Rattle.nesting.specs.declared.Selection.{Selection}
+use Rattle.nesting.specs.declared.Step.{Step}
 use Rattle.nesting.proofs.Decided.{Counts, decided-counts}
 use Rattle.select.specs.Step.{heard, step}
 
@@ -65,3 +68,13 @@ module _ (t : List ℕ) (n : ℕ) (s : State) (l : List ℕ) where
     pub step-small : (m : ℕ) (s′ : State) → step t n s l ≡ go m s′ → s′ .count < s .count + 200
     unfolding Small
     step-small m s′ e = rw e at step-is-small
+
+-- a step from another selection of the same groups, where it went on and where it was refused
+module _ (x y : Selection) (z : Step) where
+  pub went-on : (o : Outcome) → Meets y z o → z .ok ≡ true → Meets x z o
+  went-on (go m s) h e = h
+  went-on (stop r) h e = absurd (false≢true (sym (h .0) ∙ e))
+
+  pub refused-back : (w : Step) (o : Outcome) → Meets y z o → z .ok ≡ false → Meets x w (stop (z .number)) → Meets x w o
+  refused-back w (go m s) h e k = absurd (false≢true (sym e ∙ h .0))
+  refused-back w (stop r) h e k = (k .0, k .1 ∙ h .1, k .2, k .3)

@@ -66,7 +66,7 @@ module _ (f t marks₀ : List ℕ) (x : Selection) (at n : ℕ) (marks : List �
   pub inside : (l : List ℕ) (next : ℕ) → lines (drop at f) ≡ l ∷ lines (drop next f) → n < length (lines f)
   inside l next cut = omega (arith, u .left, ap length cut)
 
-  module _ (l : List ℕ) (next : ℕ) (cut : lines (drop at f) ≡ l ∷ lines (drop next f)) (z : Step) (meets : Meets z (step t (n + 1) (u .reached) l)) where
+  module _ (l : List ℕ) (next : ℕ) (cut : lines (drop at f) ≡ l ∷ lines (drop next f)) (z : Step) (meets : Meets x z (step t (n + 1) (u .reached) l)) where
     one-more : run t (n + 1) (u .reached) (lines (drop at f)) ≡ after (step t (n + 1) (u .reached) l) (n + 1) (λ s. run t (n + 1 + 1) s (lines (drop next f)))
     unfolding run
     one-more = rw cut
@@ -74,7 +74,7 @@ module _ (f t marks₀ : List ℕ) (x : Selection) (at n : ℕ) (marks : List �
     pub stops : z .ok ≡ false → run t 1 start (lines f) ≡ refused (z .number) (n + 1)
     stops h = u .goes ∙ ap (prepended (u .done)) one-more ∙ by (step t (n + 1) (u .reached) l) meets
       where
-        by : (o : Outcome) → Meets z o → prepended (u .done) (after o (n + 1) (λ s. run t (n + 1 + 1) s (lines (drop next f)))) ≡ refused (z .number) (n + 1)
+        by : (o : Outcome) → Meets x z o → prepended (u .done) (after o (n + 1) (λ s. run t (n + 1 + 1) s (lines (drop next f)))) ≡ refused (z .number) (n + 1)
         by (go m s) k = absurd (false≢true (sym h ∙ k .0))
         by (stop r) k = prepended-refused (u .done) r (n + 1) ∙ ap (λ i. refused i (n + 1)) (sym (k .1))
 
@@ -88,7 +88,7 @@ module _ (f t marks₀ : List ℕ) (x : Selection) (at n : ℕ) (marks : List �
       pub goes-on : z .ok ≡ true → Underway f t marks₀ (z .next) next (n + 1) (set marks n (z .mark))
       goes-on h = by (step t (n + 1) (u .reached) l) refl meets
         where
-          by : (o : Outcome) → step t (n + 1) (u .reached) l ≡ o → Meets z o → Underway f t marks₀ (z .next) next (n + 1) (set marks n (z .mark))
+          by : (o : Outcome) → step t (n + 1) (u .reached) l ≡ o → Meets x z o → Underway f t marks₀ (z .next) next (n + 1) (set marks n (z .mark))
           by (stop r) e k = absurd (false≢true (sym (k .0) ∙ h))
           by (go m s) e k =
               record {

@@ -28,8 +28,8 @@ abbrev pub MarksTell : Type 0
 MarksTell = (t : List ℕ) (n : ℕ) (s : State) (l : List ℕ) (m : ℕ) (s′ : State) → step t n s l ≡ go m s′ → (reads (directiveOf l) (standingOf (s .groups)) ≡ true) ↔ Read m
 
 -- How a line l₂ of the second file agrees with the line l₁ of the same number, which the first run gave the mark m. Both are plain, or both
--- have the same word, `elif` and `elseif` being one; a directive that was read is the same in both, and every name that it names has the
--- same record in both tables, or none in either.
+-- have the same word, `elif` and `elseif` being one; a directive that was read is the same in both, and the tables agree on the records
+-- under the names that it names.
 pub record Agrees (t₁ t₂ : List ℕ) (m : ℕ) (l₁ l₂ : List ℕ) : Type 0 where
   pub word : directiveOf l₂ ≡ directiveOf l₁
   pub bytes : Read m → l₂ ≡ l₁

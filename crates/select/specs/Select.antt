@@ -1,5 +1,6 @@
 -- A selection (document 01, "Lines and directives"): a mark for each line and the sum of the counts of operators, or a refusal with its
--- line. Before any line 1, 14, 15 and 16 are asked, with line 0; at the end 21, with the line of the innermost open `!if`.
+-- line. Before any line come 1, 14, 15 and 16, whose line is 0; behind the last one comes 21, whose line is that of the group which was
+-- opened last and never ended.
 use Prim.Native.Nat.{ℕ, _+_}
 use mathlib.Core.Path.{_≡_}
 use mathlib.Core.List.{List, [], _∷_, _++_}
@@ -32,7 +33,7 @@ abbrev pub prepend : ℕ → Result → Result
 prepend m (accepted ms c) = accepted (m ∷ ms) c
 prepend m (refused k n) = refused k n
 
--- where all groups are closed at the end
+-- at the end no group may be open
 abbrev pub atEnd : List Group → (count : ℕ) → Result
 atEnd [] c = accepted [] c
 atEnd (group s b n ∷ gs) c = refused FILE-UNFINISHED n
@@ -61,15 +62,37 @@ selection f t room =
     (run t 1 start (lines f)))))
     (refused TABLE-MALFORMED 0)
 
--- the answer: the number of lines and the count, or the refusal, which has no lines
+-- the answer: the number of lines and the count, or the refusal
 abbrev pub answerOf : Result → Answer
 answerOf (accepted ms c) = Accepted (length ms) c
 answerOf (refused k n) = Refused (record { number = k; line = record { 0 = n } })
+
+-- What document 01 says of each case. A refusal has its number and line, no lines and a count of 0; an accepted selection has no refusal
+-- number and no line, for which 0 stands.
+abbrev pub refusalNumber : Answer → ℕ
+refusalNumber (Accepted l c) = 0
+refusalNumber (Refused r) = r .number
+
+abbrev pub lineOf : Answer → ℕ
+lineOf (Accepted l c) = 0
+lineOf (Refused r) = r .line .0
+
+abbrev pub linesOf : Answer → ℕ
+linesOf (Accepted l c) = l
+linesOf (Refused r) = 0
+
+abbrev pub countOf : Answer → ℕ
+countOf (Accepted l c) = c
+countOf (Refused r) = 0
 
 -- the lent marks afterwards: those past the last line stay; a refusal leaves every one of them 255
 abbrev pub marksOf : (lent : List ℕ) → Result → List ℕ
 marksOf m (accepted ms c) = ms ++ drop (length ms) m
 marksOf m (refused k n) = replicate (length m) 255
+
+-- an accepted selection has a mark for each line
+abbrev pub MarksEachLine : Type 0
+MarksEachLine = (f t : List ℕ) (room : ℕ) (ms : List ℕ) (c : ℕ) → selection f t room ≡ accepted ms c → length ms ≡ length (lines f)
 
 -- what a call gives and leaves
 pub record Selects (f t marks : List ℕ) (r : Answer) (marks′ : List ℕ) : Type 0 where

@@ -17,7 +17,7 @@ use Rattle.nesting.specs.Decide.{State, Outcome, stop, decided}
 abbrev pub MOST-LINE : ℕ
 MOST-LINE = 1024
 
--- what the text of a line says over a table t, where its directive is read; any one thing elsewhere
+-- what the text of a line says over a table t, where its directive is read; elsewhere one thing that applies no operator
 unfoldable pub heard : (t : List ℕ) → List Group → List ℕ → Condition
 heard t gs l = pick (reads (directiveOf l) (standingOf gs)) (says t (directiveOf l) (textOf l)) (Fails 0)
 

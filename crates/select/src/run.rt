@@ -28,13 +28,10 @@ fn fresh() -> Selection
     }
 }
 
-pub fn refused(number: u8, line: usize) -> Answer
-    ensures { λ r. ⌜ r ≡ Answer.Refused (record { number = number; line = record { 0 = line } }) ⌝ }
+pub fn refused(number: u8, line: LineNumber) -> Answer
+    ensures { λ r. ⌜ r ≡ Answer.Refused (record { number = number; line = line }) ⌝ }
 {
-    Answer::Refused(Refusal {
-        number,
-        line: LineNumber(line),
-    })
+    Answer::Refused(Refusal { number, line })
 }
 
 // The answer after the last of n lines: all groups are closed, or the innermost open one is at fault.
@@ -46,7 +43,10 @@ fn finish(x: Selection, n: usize) -> Answer
     if depth == 0 {
         return Answer::Accepted(n, x.count);
     }
-    refused(units::FILE_UNFINISHED, x.lines[depth - 1] as usize)
+    refused(
+        units::FILE_UNFINISHED,
+        LineNumber(x.lines[depth - 1] as usize),
+    )
 }
 
 // Marks the lines of a file one after the other, up to the first that is refused.
@@ -65,7 +65,7 @@ pub fn run<'a>(marks: &mut [u8], file: &'a [u8], table: &'a [u8]) -> Answer
         let z = step::step(table, LineNumber(n + 1), x, &file[at..e]);
         let ok = z.ok;
         if !ok {
-            return refused(z.number, n + 1);
+            return refused(z.number, LineNumber(n + 1));
         }
         marks[n] = z.mark;
         let next = z.next;

@@ -3,6 +3,7 @@ use crate::Answer;
 use crate::fill;
 use crate::run;
 use line::cut;
+use units::LineNumber;
 ghost use Rattle.select.specs.Select.{Selects};
 ghost use Rattle.select.specs.Running.{Unfit};
 
@@ -41,7 +42,7 @@ pub fn select<'a>(marks: &mut [u8], file: &'a [u8], table: &'a [u8]) -> Answer
     let number = unfit(file, table, marks.len());
     if number != 0 {
         fill::fill(marks, REFUSED);
-        return run::refused(number, 0);
+        return run::refused(number, LineNumber(0));
     }
     let r = run::run(marks, file, table);
     match r {

@@ -43,7 +43,7 @@ fn counted(x: Selection, n: usize) -> Selection
 // Line n of a file, in a selection.
 pub fn step<'a>(table: &'a [u8], n: LineNumber, x: Selection, line: &'a [u8]) -> Step
     requires { ⌜ (wellFormed (now table) ≡ true) × (n .0 < 65536) × (x .depth ≤ 16) × (x .count < 2 ^ 63) ⌝ }
-    ensures { λ z. ⌜ ((s : State) → Represents x s → Meets z (stepOf (now (table .entry)) (n .0) s (now (line .entry)))) ⌝ }
+    ensures { λ z. ⌜ ((s : State) → Represents x s → Meets x z (stepOf (now (table .entry)) (n .0) s (now (line .entry)))) ⌝ }
 {
     if MOST_LINE < line.len() {
         return stack::refused(units::LINE_LONG, x);
@@ -53,5 +53,11 @@ pub fn step<'a>(table: &'a [u8], n: LineNumber, x: Selection, line: &'a [u8]) ->
         return decide::decide(d, Condition::Fails(0), n, x);
     }
     let c = condition::says(table, d, word::text(line));
-    decide::decide(d, c, n, counted(x, count_of(c)))
+    let z = decide::decide(d, c, n, counted(x, count_of(c)));
+    let ok = z.ok;
+    if ok {
+        return z;
+    }
+    // a refusal leaves the count too
+    stack::refused(z.number, x)
 }

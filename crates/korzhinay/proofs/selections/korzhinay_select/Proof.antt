@@ -1,8 +1,5 @@
 -- The answer tells what is shown; the marks are as the selection left them.
 use mathlib.Core.Path.{sym, _∙_}
-use lib.ListN.{length}
-use Rattle.select.specs.Select.{selection}
-use Rattle.korzhinay.proofs.Shown.{accepted-shown, refused-shown}
 use borrow.Author.Needs.{needs}
 use Rattle.korzhinay.proofs.selections.korzhinay_select.Statement.{statement}
 use Rattle.korzhinay.proofs.selections.korzhinay_select.Tie as tie
@@ -26,17 +23,19 @@ same-length : tie.Need-same-length
 same-length c = search needs
 
 returns : tie.Need-returns
-returns c = let w = c .before .before .before .before .before .before .before .select .ensures in
-    let p = accepted-shown (selection (c .before .before .before .before .before .before .before .before .before .before .before .before .args .file .now) (c .before .before .before .before .before .before .before .before .before .before .before .before .args .table .now) (length (c .before .before .before .before .before .before .before .before .before .before .before .before .args .marks .now))) (c .before .before .before .lines .given .0 .0) (c .before .before .before .lines .given .0 .1 .0) (sym (c .before .before .before .lines .given .1) ∙ w .answer) in
-    record { refused-with = p .0; shown = rw (← p .1) (c .show-run .ensures); marks-are = w .marks-are }
+returns c =
+    let w = c .before .before .before .before .before .before .before .select .ensures in
+    let a = sym (c .before .before .before .lines .given .1) ∙ w .answer in
+    record { refused-with = rw (← a); shown = rw (← a) (c .show-run .ensures); marks-are = w .marks-are }
 
 same-length-2 : tie.Need-same-length-2
 same-length-2 c = search needs
 
 returns-2 : tie.Need-returns-2
-returns-2 c = let w = c .before .before .before .before .before .before .before .before .select .ensures in
-    let p = refused-shown (selection (c .before .before .before .before .before .before .before .before .before .before .before .before .before .args .file .now) (c .before .before .before .before .before .before .before .before .before .before .before .before .before .args .table .now) (length (c .before .before .before .before .before .before .before .before .before .before .before .before .before .args .marks .now))) (c .before .before .before .before .r .given .0 .0) (sym (c .before .before .before .before .r .given .1) ∙ w .answer) in
-    record { refused-with = p .0; shown = rw (← p .1) (c .show-run2 .ensures); marks-are = w .marks-are }
+returns-2 c =
+    let w = c .before .before .before .before .before .before .before .before .select .ensures in
+    let a = sym (c .before .before .before .before .r .given .1) ∙ w .answer in
+    record { refused-with = rw (← a); shown = rw (← a) (c .show-run2 .ensures); marks-are = w .marks-are }
 
 pub korzhinay-select-spec : {M : Type 1} → statement M
 korzhinay-select-spec =

@@ -1,7 +1,7 @@
 -- The text starts where the run of letters behind the first byte that is no blank ends; a line of blanks has none.
 use native.Mathlib.Omega.{arith}
-use mathlib.Core.Path.{sym}
-use Rattle.line.proofs.Words.{no-text, word-inside, text-from}
+use mathlib.Core.Path.{refl, sym}
+use Rattle.line.proofs.Words.{no-text, past-text, word-inside, text-from, text-starts}
 use borrow.Author.Needs.{needs}
 use Rattle.line.proofs.word.text.Statement.{statement}
 use Rattle.line.proofs.word.text.Tie as tie
@@ -20,7 +20,8 @@ part-result-end c = search needs
 
 returns : tie.Need-returns
 returns c = let l = c .before .before .before .before .args .line .now in
-    sym (no-text l (c .before .before .run-end .ensures) (c .before .if1 .taken))
+    let n = no-text l (c .before .before .run-end .ensures) (c .before .if1 .taken) in
+    record { bytes = sym n; block = refl; offset = λ h. absurd (past-text l (c .before .before .run-end .ensures) (c .before .if1 .taken) h) }
 
 add-start : tie.Need-add-start
 add-start c = search needs
@@ -41,7 +42,8 @@ part-result-end-2 c = search needs
 
 returns-2 : tie.Need-returns-2
 returns-2 c = let l = c .before .before .before .before .before .args .line .now in
-    text-from l (c .before .before .before .run-end .ensures) (c .before .run-end2 .ensures)
+    let a = text-starts l (c .before .before .before .run-end .ensures) (c .before .run-end2 .ensures) in
+    record { bytes = text-from l (c .before .before .before .run-end .ensures) (c .before .run-end2 .ensures); block = refl; offset = λ _. omega (arith, a) }
 
 pub text-spec : {M : Type 1} → statement M
 text-spec =

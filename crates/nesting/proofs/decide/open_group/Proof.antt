@@ -30,7 +30,7 @@ went-requires c κs = search needs
 
 returns-2 : tie.Need-returns-2
 unfolding opening
-returns-2 c = λ t q. rw (lt-leb 16 (length (t .groups)) (omega (arith, q .depth, c .before .before .before .before .before .if1 .left)), sym (ap live (c .before .before .before .before .standing .ensures t q)) ∙ sym (c .before .before .before .live .ensures) ∙ not-true _ (c .before .before .if2 .taken)) (c .went .ensures _ (c .before .push .ensures t q))
+returns-2 c = λ t q. rw (lt-leb 16 (length (t .groups)) (omega (arith, q .depth, c .before .before .before .before .before .if1 .left)), sym (ap live (c .before .before .before .before .standing .ensures t q)) ∙ sym (c .before .before .before .live .ensures) ∙ not-true _ (c .before .before .if2 .taken)) (c .went .ensures (c .before .before .before .before .before .before .args .x) _ (c .before .push .ensures t q))
 
 enum-told : tie.Need-enum-told
 enum-told c = search needs
@@ -58,11 +58,11 @@ refused-requires-2 c κs = search needs
 
 returns-3 : tie.Need-returns-3
 unfolding opening
-returns-3 c = λ t q. rw (lt-leb 16 (length (t .groups)) (omega (arith, q .depth, c .before .before .before .before .before .before .before .if1 .left)), sym (ap live (c .before .before .before .before .before .before .standing .ensures t q)) ∙ sym (c .before .before .before .before .before .live .ensures) ∙ not-false _ (c .before .before .before .before .if2 .left), c .before .before .enum-told .given .1) (c .went2 .ensures _ (c .before .push2 .ensures t q))
+returns-3 c = λ t q. rw (lt-leb 16 (length (t .groups)) (omega (arith, q .depth, c .before .before .before .before .before .before .before .if1 .left)), sym (ap live (c .before .before .before .before .before .before .standing .ensures t q)) ∙ sym (c .before .before .before .before .before .live .ensures) ∙ not-false _ (c .before .before .before .before .if2 .left), c .before .before .enum-told .given .1) (c .went2 .ensures (c .before .before .before .before .before .before .before .before .args .x) _ (c .before .push2 .ensures t q))
 
 returns-4 : tie.Need-returns-4
 unfolding opening
-returns-4 c = λ t q. rw (lt-leb 16 (length (t .groups)) (omega (arith, q .depth, c .before .before .before .before .before .before .before .if1 .left)), sym (ap live (c .before .before .before .before .before .before .standing .ensures t q)) ∙ sym (c .before .before .before .before .before .live .ensures) ∙ not-false _ (c .before .before .before .before .if2 .left), c .before .before .enum-told2 .given .1) (c .went3 .ensures _ (c .before .push3 .ensures t q))
+returns-4 c = λ t q. rw (lt-leb 16 (length (t .groups)) (omega (arith, q .depth, c .before .before .before .before .before .before .before .if1 .left)), sym (ap live (c .before .before .before .before .before .before .standing .ensures t q)) ∙ sym (c .before .before .before .before .before .live .ensures) ∙ not-false _ (c .before .before .before .before .if2 .left), c .before .before .enum-told2 .given .1) (c .went3 .ensures (c .before .before .before .before .before .before .before .before .args .x) _ (c .before .push3 .ensures t q))
 
 returns-5 : tie.Need-returns-5
 unfolding opening

@@ -15,13 +15,13 @@ went-requires : tie.Need-went-requires
 went-requires c κs = search needs
 
 returns : tie.Need-returns
-returns c = λ t q. rw (sym (ap live (c .before .before .before .standing .ensures t q)) ∙ sym (c .before .before .live .ensures) ∙ c .before .if1 .taken) (c .went .ensures t q)
+returns c = λ t q. rw (sym (ap live (c .before .before .before .standing .ensures t q)) ∙ sym (c .before .before .live .ensures) ∙ c .before .if1 .taken) (c .went .ensures (c .before .before .before .before .args .x) t q)
 
 went-requires-2 : tie.Need-went-requires-2
 went-requires-2 c κs = search needs
 
 returns-2 : tie.Need-returns-2
-returns-2 c = λ t q. rw (sym (ap live (c .before .before .before .standing .ensures t q)) ∙ sym (c .before .before .live .ensures) ∙ c .before .if1 .left) (c .went2 .ensures t q)
+returns-2 c = λ t q. rw (sym (ap live (c .before .before .before .standing .ensures t q)) ∙ sym (c .before .before .live .ensures) ∙ c .before .if1 .left) (c .went2 .ensures (c .before .before .before .before .args .x) t q)
 
 pub plain-spec : {M : Type 1} → statement M
 plain-spec =

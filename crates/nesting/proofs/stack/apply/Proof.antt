@@ -44,16 +44,16 @@ refused-requires : tie.Need-refused-requires
 refused-requires c κs = search needs
 
 returns : tie.Need-returns
-returns c = λ t q. rw (c .before .before .r .given .1) (c .went .ensures t q)
+returns c = λ t q. rw (c .before .before .r .given .1) (c .went .ensures (c .before .before .before .before .args .x) t q)
 
 returns-2 : tie.Need-returns-2
-returns-2 c = λ t q. rw (c .before .before .before .r2 .given .1) (c .went2 .ensures _ (c .before .turn .ensures t q))
+returns-2 c = λ t q. rw (c .before .before .before .r2 .given .1) (c .went2 .ensures (c .before .before .before .before .before .args .x) _ (c .before .turn .ensures t q))
 
 returns-3 : tie.Need-returns-3
-returns-3 c = λ t q. rw (c .before .before .before .r3 .given .1) (c .went3 .ensures _ (c .before .close-with .ensures t q))
+returns-3 c = λ t q. rw (c .before .before .before .r3 .given .1) (c .went3 .ensures (c .before .before .before .before .before .args .x) _ (c .before .close-with .ensures t q))
 
 returns-4 : tie.Need-returns-4
-returns-4 c = λ t q. rw (c .before .before .before .r4 .given .1) (c .went4 .ensures _ (c .before .pop .ensures t q))
+returns-4 c = λ t q. rw (c .before .before .before .r4 .given .1) (c .went4 .ensures (c .before .before .before .before .before .args .x) _ (c .before .pop .ensures t q))
 
 returns-5 : tie.Need-returns-5
 returns-5 c = λ t q. rw (c .before .before .r5 .given .1) (c .refused .ensures)

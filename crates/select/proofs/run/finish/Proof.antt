@@ -10,17 +10,17 @@ use Rattle.select.proofs.run.finish.Tie as tie
 returns : tie.Need-returns
 returns c = λ s r. no-group (c .before .args .t1) s r (c .before .args .n) (c .if1 .taken)
 
-sub-refused : tie.Need-sub-refused
-sub-refused c = search needs
+sub-t7 : tie.Need-sub-t7
+sub-t7 c = search needs
 
-mul-refused : tie.Need-mul-refused
-mul-refused c = search needs
+mul-t8 : tie.Need-mul-t8
+mul-t8 c = search needs
 
-element-copy-out-refused : tie.Need-element-copy-out-refused
-element-copy-out-refused c = search needs
+element-copy-out-t11 : tie.Need-element-copy-out-t11
+element-copy-out-t11 c = search needs
 
-cast-refused : tie.Need-cast-refused
-cast-refused c = search needs
+cast-t12 : tie.Need-cast-t12
+cast-t12 c = search needs
 
 refused-requires : tie.Need-refused-requires
 refused-requires c κs = search needs
@@ -33,9 +33,9 @@ finish-spec =
     tie.close
     (tie.spec
     returns
-    sub-refused
-    mul-refused
-    element-copy-out-refused
-    cast-refused
+    sub-t7
+    mul-t8
+    element-copy-out-t11
+    cast-t12
     refused-requires
     returns-2)

@@ -45,8 +45,8 @@ step-requires : tie.Need-step-requires Inv-loop μ-loop
 step-requires c κs = let u = c .before .before .before .before .before .loop .inv .0 in
     (c .before .before .before .before .before .before .before .before .before .before .pre .0, omega (arith, inside (c .before .before .before .before .before .before .before .before .before .before .args .file .now) (c .before .before .before .before .before .before .before .before .before .before .args .table .now) (c .before .before .before .before .before .before .before .before .before .before .args .marks .now) (c .before .before .before .before .before .loop .x) (c .before .before .before .before .before .loop .at) (c .before .before .before .before .before .loop .n) (c .before .before .before .before .before .loop .marks) (c .before .before .before .before .before .loop .inv .0) (take (c .before .before .before .next .result .end .0 - c .before .before .before .before .before .loop .at) (drop (c .before .before .before .before .before .loop .at) (c .before .before .before .before .before .before .before .before .before .before .args .file .now))) (c .before .before .before .next .result .after .0) (c .before .before .before .next .ensures .first), c .before .before .before .before .before .before .before .before .before .before .pre .2), omega (arith, u .represents .depth, u .represents .shallow), few-counted (c .before .before .before .before .before .before .before .before .before .before .args .file .now) (c .before .before .before .before .before .before .before .before .before .before .args .table .now) (c .before .before .before .before .before .before .before .before .before .before .args .marks .now) (c .before .before .before .before .before .loop .x) (c .before .before .before .before .before .loop .at) (c .before .before .before .before .before .loop .n) (c .before .before .before .before .before .loop .marks) (c .before .before .before .before .before .loop .inv .0) (c .before .before .before .before .before .before .before .before .before .before .pre .2))
 
-add-refused : tie.Need-add-refused Inv-loop μ-loop
-add-refused c = omega (arith, shallow (c .before .before .before .before .before .before .before .before .before .before .before .before .args .file .now) (c .before .before .before .before .before .before .before .before .before .before .before .before .args .table .now) (c .before .before .before .before .before .before .before .before .before .before .before .before .args .marks .now) (c .before .before .before .before .before .before .before .loop .x) (c .before .before .before .before .before .before .before .loop .at) (c .before .before .before .before .before .before .before .loop .n) (c .before .before .before .before .before .before .before .loop .marks) (c .before .before .before .before .before .before .before .loop .inv .0))
+add-t21 : tie.Need-add-t21 Inv-loop μ-loop
+add-t21 c = omega (arith, shallow (c .before .before .before .before .before .before .before .before .before .before .before .before .args .file .now) (c .before .before .before .before .before .before .before .before .before .before .before .before .args .table .now) (c .before .before .before .before .before .before .before .before .before .before .before .before .args .marks .now) (c .before .before .before .before .before .before .before .loop .x) (c .before .before .before .before .before .before .before .loop .at) (c .before .before .before .before .before .before .before .loop .n) (c .before .before .before .before .before .before .before .loop .marks) (c .before .before .before .before .before .before .before .loop .inv .0))
 
 refused-requires : tie.Need-refused-requires Inv-loop μ-loop
 refused-requires c κs = search needs
@@ -93,7 +93,7 @@ run-spec =
     part-step-start
     part-step-end
     step-requires
-    add-refused
+    add-t21
     refused-requires
     same-length
     returns

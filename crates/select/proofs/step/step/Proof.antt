@@ -1,5 +1,6 @@
--- The length decides, then whether the directive is read.
+-- The length decides, then whether the directive is read; a refusal gives back the selection as it was.
 use native.Mathlib.Omega.{arith}
+use Prim.Native.Nat.{_+_}
 use mathlib.Core.Path.{_≡_, sym, ap, _∙_}
 use mathlib.Core.Bool.{true, false}
 use borrow.Author.Tests.{not-true, not-false}
@@ -7,7 +8,8 @@ use Rattle.condition.specs.Conditions.{says, countOf}
 use Rattle.condition.proofs.Counts.{count-small}
 use Rattle.line.specs.Directives.{directiveOf, textOf}
 use Rattle.nesting.specs.Groups.{standingOf, reads}
-use Rattle.select.proofs.Steps.{long-step, unread-step, read-step}
+use Rattle.nesting.specs.Decide.{decided}
+use Rattle.select.proofs.Steps.{long-step, unread-step, read-step, went-on, refused-back}
 use borrow.Author.Needs.{needs}
 use Rattle.select.proofs.step.step.Statement.{statement}
 use Rattle.select.proofs.step.step.Tie as tie
@@ -53,10 +55,22 @@ decide-requires-2 c κs = search needs
 
 returns-3 : tie.Need-returns-3
 returns-3 c = λ s r.
-    let l = c .before .before .before .before .before .before .before .before .before .before .before .before .args .line .now in
-    let q : reads (directiveOf l) (standingOf (s .groups)) ≡ true = sym (ap (λ d. reads d (standingOf (s .groups))) (c .before .before .before .before .before .before .before .before .directive .ensures)) ∙ sym (ap (reads (c .before .before .before .before .before .before .before .before .directive .result)) (c .before .before .before .before .before .before .before .standing .ensures s r)) ∙ sym (c .before .before .before .before .before .before .reads .ensures) ∙ not-false _ (c .before .before .before .before .before .if2 .left) in
-    let y : c .before .before .before .says .result ≡ says (c .before .before .before .before .before .before .before .before .before .before .before .before .args .table .now) (directiveOf l) (textOf l) = c .before .before .before .says .ensures ∙ rw (c .before .before .before .before .before .before .before .before .directive .ensures, c .before .before .before .before .text .ensures) in
-    rw (read-step (c .before .before .before .before .before .before .before .before .before .before .before .before .args .table .now) (c .before .before .before .before .before .before .before .before .before .before .before .before .args .n .0) s l (c .before .before .before .before .before .before .before .before .before .if1 .left) q, ← y, ← c .before .before .count-of .ensures, ← c .before .before .before .before .before .before .before .before .directive .ensures) (c .decide2 .ensures _ (c .before .counted .ensures .1 s r))
+    let l = c .before .before .before .before .before .before .before .before .before .before .before .before .before .args .line .now in
+    let q : reads (directiveOf l) (standingOf (s .groups)) ≡ true = sym (ap (λ d. reads d (standingOf (s .groups))) (c .before .before .before .before .before .before .before .before .before .directive .ensures)) ∙ sym (ap (reads (c .before .before .before .before .before .before .before .before .before .directive .result)) (c .before .before .before .before .before .before .before .before .standing .ensures s r)) ∙ sym (c .before .before .before .before .before .before .before .reads .ensures) ∙ not-false _ (c .before .before .before .before .before .before .if2 .left) in
+    let y : c .before .before .before .before .says .result ≡ says (c .before .before .before .before .before .before .before .before .before .before .before .before .before .args .table .now) (directiveOf l) (textOf l) = c .before .before .before .before .says .ensures ∙ rw (c .before .before .before .before .before .before .before .before .before .directive .ensures, c .before .before .before .before .before .text .ensures .bytes) in
+    let m = c .before .decide2 .ensures _ (c .before .before .counted .ensures .1 s r) in
+    rw (read-step (c .before .before .before .before .before .before .before .before .before .before .before .before .before .args .table .now) (c .before .before .before .before .before .before .before .before .before .before .before .before .before .args .n .0) s l (c .before .before .before .before .before .before .before .before .before .before .if1 .left) q, ← y, ← c .before .before .before .count-of .ensures, ← c .before .before .before .before .before .before .before .before .before .directive .ensures) (went-on (c .before .before .before .before .before .before .before .before .before .before .before .before .before .args .x) (c .before .before .counted .result) (c .before .decide2 .result) (decided (c .before .before .before .before .before .before .before .before .before .directive .result) (c .before .before .before .before .says .result) (c .before .before .before .before .before .before .before .before .before .before .before .before .before .args .n .0) (s .count + c .before .before .before .count-of .result) (s .groups)) m (c .if3 .taken))
+
+refused-requires-2 : tie.Need-refused-requires-2
+refused-requires-2 c κs = search needs
+
+returns-4 : tie.Need-returns-4
+returns-4 c = λ s r.
+    let l = c .before .before .before .before .before .before .before .before .before .before .before .before .before .before .args .line .now in
+    let q : reads (directiveOf l) (standingOf (s .groups)) ≡ true = sym (ap (λ d. reads d (standingOf (s .groups))) (c .before .before .before .before .before .before .before .before .before .before .directive .ensures)) ∙ sym (ap (reads (c .before .before .before .before .before .before .before .before .before .before .directive .result)) (c .before .before .before .before .before .before .before .before .before .standing .ensures s r)) ∙ sym (c .before .before .before .before .before .before .before .before .reads .ensures) ∙ not-false _ (c .before .before .before .before .before .before .before .if2 .left) in
+    let y : c .before .before .before .before .before .says .result ≡ says (c .before .before .before .before .before .before .before .before .before .before .before .before .before .before .args .table .now) (directiveOf l) (textOf l) = c .before .before .before .before .before .says .ensures ∙ rw (c .before .before .before .before .before .before .before .before .before .before .directive .ensures, c .before .before .before .before .before .before .text .ensures .bytes) in
+    let m = c .before .before .decide2 .ensures _ (c .before .before .before .counted .ensures .1 s r) in
+    rw (read-step (c .before .before .before .before .before .before .before .before .before .before .before .before .before .before .args .table .now) (c .before .before .before .before .before .before .before .before .before .before .before .before .before .before .args .n .0) s l (c .before .before .before .before .before .before .before .before .before .before .before .if1 .left) q, ← y, ← c .before .before .before .before .count-of .ensures, ← c .before .before .before .before .before .before .before .before .before .before .directive .ensures) (refused-back (c .before .before .before .before .before .before .before .before .before .before .before .before .before .before .args .x) (c .before .before .before .counted .result) (c .before .before .decide2 .result) (c .refused2 .result) (decided (c .before .before .before .before .before .before .before .before .before .before .directive .result) (c .before .before .before .before .before .says .result) (c .before .before .before .before .before .before .before .before .before .before .before .before .before .before .args .n .0) (s .count + c .before .before .before .before .count-of .result) (s .groups)) m (c .before .if3 .left) (c .refused2 .ensures))
 
 pub step-spec : {M : Type 1} → statement M
 step-spec =
@@ -74,4 +88,6 @@ step-spec =
     count-of-requires
     counted-requires
     decide-requires-2
-    returns-3)
+    returns-3
+    refused-requires-2
+    returns-4)
