@@ -126,6 +126,47 @@ enum korzhinay_datum {
     KORZHINAY_DATUM_UINT64 = 5
 };
 
+/* Marks the lines of a description file: which are kept under a table of settings, which are dropped, and which are directives.
+ * With 0 the first bytes of marks are the marks of the lines, one byte each, and those past the last line stay. With a refusal
+ * every byte of marks is 255, however many were lent.
+ *   out[0]  the line of the refusal, counted from 1; 0 without one, and for 1, 14, 15 and 16, which are of no line
+ *   out[1]  how many lines the file has; 0 with a refusal
+ *   out[2]  how many operators were applied in all expressions that were read, summed up; 0 with a refusal
+ * A line ends at LF, and a CR right before that LF is part of the end. What follows the last LF is a line if it has any byte. A
+ * line whose first byte, blanks left out, is `!` is a directive: !if !ifdef !ifndef !elseif !elif !else !endif; but !include and
+ * !error lines are plain, as all others are.
+ * Refusals, of which the first that applies is given; before all lines:
+ *    1  the table is malformed
+ *   14  the file is longer than 65,536 bytes
+ *   15  the file has more than 4,096 lines
+ *   16  marks has fewer bytes than the file has lines
+ * then, of the first line that has any:
+ *   17  the line is longer than 1,024 bytes, its end left off
+ *   18  the letters after `!` are none of the words above, in a dropped branch too
+ *   19  a directive without an open !if, !ifdef or !ifndef; or !elseif, !elif or !else after its group's !else; in a dropped branch
+ *       too
+ *   20  a 17th !if, !ifdef or !ifndef while 16 are open, in a dropped branch too
+ *   22  the text after a word that is read is malformed: no blank directly after !if, !ifdef, !ifndef, !elseif or !elif; something
+ *       else than one macro name after !ifdef or !ifndef; something else than blanks and a comment after !else or !endif
+ *   3 to 12  an expression that is read, as korzhinay_evaluate refuses it (but not 2: a line is too short for that)
+ *   13  the value of an expression that is read is neither the number 0 nor the number 1
+ * and after the last line:
+ *   21  an !if, !ifdef or !ifndef is still open; the line is that of the innermost one */
+uint8_t korzhinay_select(uint8_t *marks, size_t marks_len, const uint8_t *file, size_t file_len, const uint8_t *table,
+                         size_t table_len, uint64_t out[3]);
+
+/* The marks of lines. A directive is read where the outcome depends on it: where the branch around its group is taken or there is
+ * none, and, for !elseif and !elif, where besides no earlier branch of its group was taken. */
+enum korzhinay_mark {
+    KORZHINAY_MARK_DROPPED = 0,   /* a plain line in a branch that is not taken */
+    KORZHINAY_MARK_KEPT = 1,      /* a plain line that goes in */
+    KORZHINAY_MARK_UNREAD = 2,    /* a directive of which only the word was looked at */
+    KORZHINAY_MARK_NOT_TAKEN = 3, /* a directive that was read; the branch after it is not taken */
+    KORZHINAY_MARK_TAKEN = 4,     /* a directive that was read; the branch after it is taken */
+    KORZHINAY_MARK_END = 5,       /* an !endif that was read */
+    KORZHINAY_MARK_REFUSED = 255  /* every byte of marks after a refusal */
+};
+
 #ifdef __cplusplus
 }
 #endif

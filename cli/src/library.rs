@@ -145,3 +145,39 @@ pub fn field(expression: &[u8], table: &[u8], datum: u8) -> Result<Vec<u8>, u8> 
     buffer.truncate(length as usize);
     Ok(buffer)
 }
+
+/// What the library says of the lines of a file that it accepts, or why it does not.
+pub type Selection = Result<Vec<u8>, Refused>;
+
+/// A refusal number, and its line; 0 if it is of no line.
+pub struct Refused {
+    pub number: u8,
+    pub line: u64,
+}
+
+/// As many lines as an accepted file can have.
+const MOST_LINES: usize = 4_096;
+
+/// The marks of the lines of a file.
+pub fn select(file: &[u8], table: &[u8]) -> Selection {
+    let mut marks = vec![0; MOST_LINES];
+    let mut out = [0u64; 3];
+    // SAFETY: the call reads the file and the table and writes within the marks and the three numbers.
+    let number = unsafe {
+        c::korzhinay_select(
+            marks.as_mut_ptr().cast(),
+            marks.len(),
+            pointer(file),
+            file.len(),
+            pointer(table),
+            table.len(),
+            out.as_mut_ptr(),
+        )
+    };
+    let [line, lines, _] = out;
+    if number != 0 {
+        return Err(Refused { number, line });
+    }
+    marks.truncate(lines as usize);
+    Ok(marks)
+}

@@ -83,6 +83,49 @@ static void check_field(const uint8_t *table, size_t table_len)
     check("no buffer", korzhinay_field(NULL, 0, (const uint8_t *)"1", 1, NULL, 0, KORZHINAY_DATUM_UINT8, &length) == 26);
 }
 
+static uint8_t selection(uint8_t marks[8], size_t room, const char *file, const uint8_t *table, size_t table_len, uint64_t out[3])
+{
+    memset(marks, UNTOUCHED, 8);
+    memset(out, UNTOUCHED, 3 * sizeof out[0]);
+    return korzhinay_select(marks, room, (const uint8_t *)file, strlen(file), table, table_len, out);
+}
+
+static int shows(const uint64_t out[3], uint64_t line, uint64_t lines, uint64_t count)
+{
+    return out[0] == line && out[1] == lines && out[2] == count;
+}
+
+static int refused(const uint8_t marks[8], size_t room)
+{
+    for (size_t i = 0; i < 8; i++)
+        if (marks[i] != (i < room ? KORZHINAY_MARK_REFUSED : UNTOUCHED))
+            return 0;
+    return 1;
+}
+
+static void check_selection(const uint8_t *table, size_t table_len)
+{
+    static const char group[] = {KORZHINAY_MARK_TAKEN, KORZHINAY_MARK_KEPT, KORZHINAY_MARK_UNREAD, KORZHINAY_MARK_DROPPED,
+                                 KORZHINAY_MARK_NOT_TAKEN, KORZHINAY_MARK_END};
+    uint8_t marks[8];
+    uint64_t out[3];
+
+    check("a file", selection(marks, 8, "!if $(WEEK) / 2 == 24\na\n!elif @\nb\n!else\r\n!endif", table, table_len, out) == 0);
+    check("its six marks, and no more", shows(out, 0, 6, 2) && holds(marks, group, 6));
+    check("a name that is set", selection(marks, 2, "!ifndef WEEK\n!endif # c\n", table, table_len, out) == 0);
+    check("two marks for two lines", shows(out, 0, 2, 0) && holds(marks, "\3\5", 2));
+    check("a mark too few", selection(marks, 1, "a\nb", table, table_len, out) == 16);
+    check("of no line", shows(out, 0, 0, 0) && refused(marks, 1));
+    check("a zero divisor", selection(marks, 8, "a\n!if 1 / 0\n!endif\n", table, table_len, out) == 12);
+    check("in line 2, every mark 255", shows(out, 2, 0, 0) && refused(marks, 8));
+    check("an open group", selection(marks, 7, "!if 1\n!if 0\n", NULL, 0, out) == 21);
+    check("the inner one", shows(out, 2, 0, 0) && refused(marks, 7));
+    check("a table cut short", selection(marks, 8, "a", table, table_len - 1, out) == 1);
+    check("and every mark 255 again", shows(out, 0, 0, 0) && refused(marks, 8));
+    check("an unknown word", selection(marks, 8, "!iff 1", NULL, 0, out) == 18 && shows(out, 1, 0, 0));
+    check("no file, no marks", korzhinay_select(NULL, 0, NULL, 0, NULL, 0, out) == 0 && shows(out, 0, 0, 0));
+}
+
 int main(void)
 {
     uint8_t settings[256] = "NAME";
@@ -122,6 +165,7 @@ int main(void)
     settings[128 + 72] = 48;
     check_evaluation(settings, sizeof settings);
     check_field(settings, sizeof settings);
+    check_selection(settings, sizeof settings);
 
     printf("%d passed, %d failed\n", passed, failed);
     return failed != 0;

@@ -8,6 +8,7 @@ LIB.korzhinay_table.restype = ctypes.c_uint8
 LIB.korzhinay_lookup.restype = ctypes.c_uint8
 LIB.korzhinay_evaluate.restype = ctypes.c_uint8
 LIB.korzhinay_field.restype = ctypes.c_uint8
+LIB.korzhinay_select.restype = ctypes.c_uint8
 SIZE = ctypes.c_size_t
 
 # What stands in a lent array before a call: entries that a call must not write have to keep it.
@@ -66,3 +67,22 @@ def field(expression, table, datum, room):
     if after[room:] != before[room:]:
         raise AssertionError("bytes past the buffer were written")
     return refusal, length.value, after[:room]
+
+
+def unmarked(length):
+    """What stands in the marks before the call: no byte is a mark, or that of its neighbours."""
+    return bytes(6 + 7 * i % 241 for i in range(length))
+
+
+def select(file, table, room):
+    """The refusal number (0: none), the three numbers of the answer and every byte of the marks; those after both must stay."""
+    before = unmarked(room + 16)
+    marks = (ctypes.c_uint8 * (room + 16)).from_buffer_copy(before)
+    out = (ctypes.c_uint64 * 5)(*[VALUE] * 5)
+    refusal = LIB.korzhinay_select(marks, SIZE(room), file, SIZE(len(file)), table, SIZE(len(table)), out)
+    after = bytes(marks)
+    if after[room:] != before[room:]:
+        raise AssertionError("bytes past the marks were written")
+    if tuple(out[3:]) != (VALUE, VALUE):
+        raise AssertionError("a fourth number was written")
+    return refusal, tuple(out[:3]), after[:room]

@@ -4,6 +4,7 @@ import sys
 import evaluation
 import field
 import library
+import selection
 import tables
 import tokens
 
@@ -40,6 +41,13 @@ for expression, table, datum, room, wanted in field.VECTORS:
     else:
         answer = (0, len(wanted), wanted + before[len(wanted):])
     check(what, library.field(expression, table, datum, room), answer)
+for file, table, room, (refusal, line, marks, count) in selection.VECTORS:
+    what = "selection of %r, %d bytes of table, %d of marks" % (file[:120], len(table), room)
+    if refusal:
+        answer = (refusal, (line, 0, 0), b"\xff" * room)
+    else:
+        answer = (0, (0, len(marks), count), marks + library.unmarked(room)[len(marks):])
+    check(what, library.select(file, table, room), answer)
 
 print("%d passed, %d failed" % (passed, failed))
 sys.exit(1 if failed else 0)

@@ -39,6 +39,15 @@ extern "C" {
         datum: u8,
         length: *mut u64,
     ) -> u8;
+    fn korzhinay_select(
+        marks: *mut u8,
+        marks_len: usize,
+        file: *const u8,
+        file_len: usize,
+        table: *const u8,
+        table_len: usize,
+        out: *mut u64,
+    ) -> u8;
 }
 
 /// 0 for a well formed table, else its refusal number.
@@ -144,5 +153,67 @@ pub fn field(
         refusal,
         length: length.cells()[0],
         buffer: buffer.cells().to_vec(),
+    })
+}
+
+/// Everything that a selection leaves in the caller's memory.
+#[derive(Debug, PartialEq)]
+pub struct Selected {
+    pub refusal: u8,
+    pub line: u64,
+    pub lines: u64,
+    pub count: u64,
+    pub marks: Vec<u8>,
+}
+
+/// Marks of `room` bytes are lent, filled with the pattern's last byte.
+pub fn select(file: Input, table: Input, room: usize, pattern: u64) -> Result<Selected, String> {
+    let mut marks = Buffer::new(room, pattern as u8);
+    let start = marks.start();
+    let selected = select_into(start, room, file, table, pattern)?;
+    marks.check("marks")?;
+    Ok(Selected {
+        marks: marks.cells().to_vec(),
+        ..selected
+    })
+}
+
+/// With no marks at all, at any address.
+pub fn select_without_marks(
+    nowhere: Input,
+    file: Input,
+    table: Input,
+    pattern: u64,
+) -> Result<Selected, String> {
+    select_into(nowhere.start.cast_mut(), 0, file, table, pattern)
+}
+
+fn select_into(
+    marks: *mut u8,
+    room: usize,
+    file: Input,
+    table: Input,
+    pattern: u64,
+) -> Result<Selected, String> {
+    let mut out = Buffer::new(3, pattern);
+    let refusal = unsafe {
+        korzhinay_select(
+            marks,
+            room,
+            file.start,
+            file.len,
+            table.start,
+            table.len,
+            out.start(),
+        )
+    };
+    out.check("selection's three numbers")?;
+    let [line, lines, count] = [0, 1, 2].map(|place| out.cells()[place]);
+    Ok(Selected {
+        refusal,
+        line,
+        lines,
+        count,
+        marks: Vec::new(),
     })
 }

@@ -7,10 +7,12 @@ mod crash;
 mod evaluations;
 mod fields;
 mod gen;
+mod isolation;
 mod lent;
 mod library;
 mod prng;
 mod report;
+mod selections;
 mod subject;
 mod tables;
 mod tokens;
@@ -21,12 +23,14 @@ use std::time::Duration;
 use subject::{Load, Subject};
 
 const USAGE: &str = "usage: differential [--seed N] [--tables N] [--expressions N] \
-[--evaluations N] [--fields N] [--seconds N] [--case N]
+[--evaluations N] [--fields N] [--selections N] [--isolation N] [--seconds N] [--case N]
   --seed N         where the random inputs start (default 1)
   --tables N       random cases of tables (default 20000, 0 leaves them out)
   --expressions N  random cases of tokens (default 200000, 0 leaves them out)
   --evaluations N  random cases of a table and four expressions (default 100000, 0 leaves them out)
   --fields N       random cases of a table and four fields (default 50000, 0 leaves them out)
+  --selections N   random cases of a table and three files (default 25000, 0 leaves them out)
+  --isolation N    random pairs of files and tables that agree in what is read (default 40000, 0 leaves them out)
   --seconds N      go on after these cases until N seconds are over, shared among the subjects
   --case N         run only the random case N of each subject, to look into a mismatch";
 
@@ -36,6 +40,8 @@ struct Options {
     expressions: u64,
     evaluations: u64,
     fields: u64,
+    selections: u64,
+    isolation: u64,
     seconds: u64,
     case: Option<u64>,
 }
@@ -48,6 +54,8 @@ impl Options {
             expressions: 200_000,
             evaluations: 100_000,
             fields: 50_000,
+            selections: 25_000,
+            isolation: 40_000,
             seconds: 0,
             case: None,
         };
@@ -59,6 +67,8 @@ impl Options {
                 "--expressions" => options.expressions = number,
                 "--evaluations" => options.evaluations = number,
                 "--fields" => options.fields = number,
+                "--selections" => options.selections = number,
+                "--isolation" => options.isolation = number,
                 "--seconds" => options.seconds = number,
                 "--case" => options.case = Some(number),
                 _ => return None,
@@ -80,6 +90,8 @@ fn main() -> ExitCode {
         (&tokens::Tokens, options.expressions),
         (&evaluations::Evaluations, options.evaluations),
         (&fields::Fields, options.fields),
+        (&selections::Selections, options.selections),
+        (&isolation::Isolation, options.isolation),
     ];
     subjects.retain(|(_, cases)| *cases > 0);
 

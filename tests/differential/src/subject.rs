@@ -16,6 +16,11 @@ pub trait Subject {
     /// The refusals that the random cases have to meet.
     fn needed(&self) -> &'static [u8];
 
+    /// What else the random cases have to show, if they did not.
+    fn lacks(&self, _random: &Tally) -> Option<String> {
+        None
+    }
+
     /// Inputs that come in every run.
     fn fixed(&self, tally: &mut Tally) -> Result<(), Mismatch>;
 
@@ -85,6 +90,10 @@ pub fn run(subject: &dyn Subject, load: &Load) -> bool {
                 println!("{name}: refusal {number} ({meaning}) was never met");
                 complete = false;
             }
+        }
+        if let Some(what) = subject.lacks(&random) {
+            println!("{name}: {what}");
+            complete = false;
         }
     }
     complete

@@ -32,7 +32,7 @@ pub fn table(rng: &mut Prng) -> Vec<u8> {
 }
 
 /// Small numbers and short strings under the known names, a few left out.
-fn known(rng: &mut Prng) -> Vec<u8> {
+pub fn known(rng: &mut Prng) -> Vec<u8> {
     let mut names: Vec<(&str, Kind)> = Vec::new();
     for (list, kind) in [
         (&NUMBERS[..], Kind::Number),

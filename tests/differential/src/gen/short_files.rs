@@ -1,0 +1,133 @@
+//! Every short file of some sorts.
+
+use super::directives::{NEARLY_WORDS, RUBBISH, WORDS};
+
+/// Lines of all sorts that matter to one another.
+const LINES: [&str; 14] = [
+    "x",
+    "!if 0",
+    "!if 1",
+    "!if !@",
+    "!ifdef A",
+    "!ifndef A",
+    "!elseif !0",
+    "!elif 0",
+    "!elif @",
+    "!else",
+    "!else x",
+    "!endif",
+    "!endif x",
+    "!foo",
+];
+
+/// Those of them that open, part and close groups.
+const BARE: [&str; 6] = ["!if 0", "!if 1", "!elif 1", "!else", "!endif", "x"];
+
+pub fn all() -> Vec<Vec<u8>> {
+    let mut files = lists(&LINES, 4);
+    files.extend(lists(&BARE, 6));
+    files.extend(ends());
+    files.extend(texts());
+    files.extend(bytes());
+    files
+}
+
+/// Every list of up to `most` of these lines.
+fn lists(lines: &[&str], most: usize) -> Vec<Vec<u8>> {
+    let mut files = vec![Vec::new()];
+    let mut from = 0;
+    for _ in 0..most {
+        let to = files.len();
+        for place in from..to {
+            for line in lines {
+                files.push([&files[place], line.as_bytes(), b"\n"].concat());
+            }
+        }
+        from = to;
+    }
+    files
+}
+
+/// Every way for lines to end, with up to seven bytes of CR, LF and others,
+/// by themselves and after directives.
+fn ends() -> Vec<Vec<u8>> {
+    let mut all: Vec<Vec<u8>> = vec![Vec::new()];
+    let mut from = 0;
+    for _ in 0..7 {
+        let to = all.len();
+        for place in from..to {
+            for &byte in b"\r\nx" {
+                all.push([&all[place][..], &[byte]].concat());
+            }
+        }
+        from = to;
+    }
+    let mut files = all.clone();
+    for end in all.iter().take_while(|end| end.len() < 5) {
+        for (front, back) in [
+            (&b"!if 1"[..], &b"!endif"[..]),
+            (b"!if 1\n!else", b"!endif"),
+            (b"!if 0\n!if 1", b"!endif\n!endif"),
+            (b"!if 1\n!endif", b""),
+            (b"!ifdef A", b"!endif"),
+            (b"!include", b""),
+        ] {
+            files.push([front, end, back].concat());
+        }
+    }
+    files
+}
+
+/// Every word with every text, read, after a taken branch, and in a dropped
+/// one.
+fn texts() -> Vec<Vec<u8>> {
+    let mut files = Vec::new();
+    for word in [WORDS, NEARLY_WORDS].concat() {
+        for text in RUBBISH {
+            for (front, back) in [
+                ("", ""),
+                ("", "!endif\n"),
+                ("!if 1\n", "!endif\n"),
+                ("!if 0\n", "!endif\n"),
+                ("!if 0\n!if 1\n", "!endif\n!endif\n"),
+                ("!if 1\n!else\n", "!endif\n"),
+            ] {
+                let line = [b"!", word.as_bytes(), *text, b"\n"].concat();
+                files.push([front.as_bytes(), &line, back.as_bytes()].concat());
+            }
+        }
+    }
+    files
+}
+
+/// Every byte in the places where it can matter.
+fn bytes() -> Vec<Vec<u8>> {
+    let mut files = Vec::new();
+    for byte in 0..=255u8 {
+        for (front, back) in [
+            (&b""[..], &b""[..]),
+            (b"", b"!if 1\n!endif"),
+            (b"!", b"if 1\n!endif"),
+            (b"!i", b" 1\n!endif"),
+            (b"!if", b"1\n!endif"),
+            (b"!if", b" 1\n!endif"),
+            (b"!if 1", b"\n!endif"),
+            (b"!if 0\n!if", b"\n!endif\n!endif"),
+            (b"!if 1\n!else", b"\n!endif"),
+            (b"!if 1\n!else ", b"\n!endif"),
+            (b"!if 1\n!endif", b"\n"),
+            (b"!if 1\n!endif\t", b""),
+            (b"!ifdef", b"A\n!endif"),
+            (b"!ifdef ", b"\n!endif"),
+            (b"!ifdef A", b"\n!endif"),
+            (b"!ifndef $", b"A)\n!endif"),
+            (b"!ifndef $(A", b"\n!endif"),
+            (b"!ifndef $(A)", b"\n!endif"),
+            (b"!include", b"\n"),
+            (b"!else", b""),
+        ] {
+            files.push([front, &[byte], back].concat());
+        }
+    }
+    files
+}

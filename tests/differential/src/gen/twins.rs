@@ -1,0 +1,241 @@
+//! A second file and table beside a first, which keep the terms of demand 3:
+//! whatever an accepted run does not read may be anything.
+
+use std::collections::{BTreeMap, BTreeSet};
+
+use oracle::lines::{lines, sort, Line, Word};
+use oracle::selection::{mark, MAX_FILE, MAX_LINE, MAX_LINES};
+use oracle::table::{MAX_RECORDS, NAME, RECORD};
+use oracle::tokens::code;
+
+use super::directives::{plain, rubbish, BLANKS};
+use super::{settings, tables};
+use crate::prng::Prng;
+
+/// What of a file may change.
+#[derive(Clone, Copy)]
+struct Free {
+    plain: bool,
+    unread: bool,
+    ends: bool,
+}
+
+/// The marks of a file that the oracle accepts.
+pub fn marks(file: &[u8], table: &[u8]) -> Option<Vec<u8>> {
+    let mut marks = vec![0; MAX_LINES];
+    let (count, _) = oracle::select(file, table, &mut marks).ok()?;
+    marks.truncate(count);
+    Some(marks)
+}
+
+/// The file with other text after directives that are not read, if it is
+/// accepted under the table.
+pub fn spoil(rng: &mut Prng, file: &[u8], table: &[u8]) -> Vec<u8> {
+    let Some(marks) = marks(file, table) else {
+        return file.to_vec();
+    };
+    let free = Free {
+        plain: false,
+        unread: true,
+        ends: false,
+    };
+    rewrite(rng, file, &marks, free)
+}
+
+/// Another file with the same marks.
+pub fn file(rng: &mut Prng, file: &[u8], marks: &[u8]) -> Vec<u8> {
+    let free = Free {
+        plain: !rng.one_in(4),
+        unread: !rng.one_in(4),
+        ends: !rng.one_in(4),
+    };
+    rewrite(rng, file, marks, free)
+}
+
+fn rewrite(rng: &mut Prng, file: &[u8], marks: &[u8], free: Free) -> Vec<u8> {
+    let mut second = Vec::new();
+    let pieces = file.split_inclusive(|&byte| byte == b'\n');
+    for ((piece, line), &mark) in pieces.zip(lines(file)).zip(marks) {
+        let same = match mark {
+            mark::DROPPED | mark::KEPT => !free.plain,
+            mark::UNREAD => !free.unread,
+            _ => true,
+        };
+        let bytes = match sort(line) {
+            _ if same => line.to_vec(),
+            Ok(Line::Directive { word, .. }) => unread(rng, word),
+            _ => plain(rng),
+        };
+        let end = match &piece[line.len()..] {
+            end if !free.ends => end,
+            // A CR that is the line's own must not become part of its end.
+            _ if bytes.ends_with(b"\r") => b"\r\n",
+            _ => rng.pick(&[&b"\n"[..], b"\r\n"]),
+        };
+        second.extend(&bytes);
+        // Without an end it would be no line.
+        second.extend(if bytes.is_empty() && end.is_empty() {
+            b"\n"
+        } else {
+            end
+        });
+    }
+    if free.ends && rng.one_in(3) {
+        drop_last_end(&mut second);
+    }
+    match second.len() {
+        0..=MAX_FILE => second,
+        _ => file.to_vec(),
+    }
+}
+
+/// The last line may do without its end, if it has bytes besides.
+fn drop_last_end(file: &mut Vec<u8>) {
+    let line = lines(file).last().map_or(0, <[u8]>::len);
+    let end = match &file[..] {
+        [.., b'\r', b'\n'] => 2,
+        [.., b'\n'] => 1,
+        _ => 0,
+    };
+    if line > 0 {
+        file.truncate(file.len() - end);
+    }
+}
+
+/// A directive with this word and any text.
+fn unread(rng: &mut Prng, word: Word) -> Vec<u8> {
+    let spelled = match word {
+        Word::If => "if",
+        Word::Ifdef => "ifdef",
+        Word::Ifndef => "ifndef",
+        Word::Elseif => rng.pick(&["elseif", "elif"]),
+        Word::Else => "else",
+        Word::Endif => "endif",
+    };
+    let mut line = [rng.pick(BLANKS), b"!", spelled.as_bytes(), &rubbish(rng)].concat();
+    line.truncate(MAX_LINE);
+    line
+}
+
+/// The names that the read directives of a file depend on.
+pub fn named(file: &[u8], marks: &[u8]) -> BTreeSet<Vec<u8>> {
+    let mut names = BTreeSet::new();
+    for (line, &mark) in lines(file).zip(marks) {
+        if !matches!(mark, mark::TAKEN | mark::NOT_TAKEN) {
+            continue;
+        }
+        let Ok(Line::Directive { word, argument }) = sort(line) else {
+            continue;
+        };
+        match word {
+            Word::If | Word::Elseif => names.extend(in_expression(argument)),
+            Word::Ifdef | Word::Ifndef => {
+                let text = oracle::bytes::skip_blanks(argument);
+                let text = text.strip_prefix(b"$(").unwrap_or(text);
+                names.insert(text[..oracle::bytes::macro_length(text)].to_vec());
+            }
+            Word::Else | Word::Endif => {}
+        }
+    }
+    names
+}
+
+/// The macros and PCDs among the tokens.
+fn in_expression(argument: &[u8]) -> Vec<Vec<u8>> {
+    let tokens = oracle::scan(argument).tokens;
+    tokens
+        .iter()
+        .filter_map(|token| {
+            let bytes = &argument[token.start..token.start + token.len];
+            match token.code {
+                code::MACRO => Some(bytes[2..bytes.len() - 1].to_vec()),
+                code::PCD => Some(bytes.to_vec()),
+                _ => None,
+            }
+        })
+        .collect()
+}
+
+/// Another table that has the same records, or none, under these names.
+pub fn table(rng: &mut Prng, table: &[u8], named: &BTreeSet<Vec<u8>>) -> Vec<u8> {
+    let other = match rng.below(3) {
+        0 => tables::valid(rng),
+        1 => settings::known(rng),
+        _ => Vec::new(),
+    };
+    let mut second: BTreeMap<Vec<u8>, [u8; RECORD]> = BTreeMap::new();
+    for record in table.as_chunks::<RECORD>().0 {
+        let name = name_in(record);
+        if named.contains(&name) || rng.one_in(2) {
+            second.insert(name, *record);
+        }
+    }
+    for record in other.as_chunks::<RECORD>().0 {
+        let name = name_in(record);
+        if !named.contains(&name) && second.len() < MAX_RECORDS {
+            second.insert(name, *record);
+        }
+    }
+    second.into_values().flatten().collect()
+}
+
+/// The file with one read directive changed so that its mark is another, or
+/// its text is malformed. None if it reads none.
+pub fn disturbed_file(rng: &mut Prng, file: &[u8], marks: &[u8]) -> Option<Vec<u8>> {
+    let read: Vec<usize> = (0..marks.len())
+        .filter(|&index| marks[index] >= mark::NOT_TAKEN)
+        .collect();
+    if read.is_empty() {
+        return None;
+    }
+    let chosen = rng.pick(&read);
+    let mut second = Vec::new();
+    for (index, line) in lines(file).enumerate() {
+        match sort(line) {
+            Ok(Line::Directive { word, .. }) if index == chosen => {
+                let taken = marks[index] == mark::TAKEN;
+                second.extend(other_outcome(word, taken));
+            }
+            _ => second.extend(line),
+        }
+        second.extend(if line.ends_with(b"\r") {
+            &b"\r\n"[..]
+        } else {
+            b"\n"
+        });
+    }
+    Some(second)
+}
+
+fn other_outcome(word: Word, taken: bool) -> &'static [u8] {
+    match (word, taken) {
+        (Word::If, true) => b"!if 0",
+        (Word::If, false) => b"!if 1",
+        (Word::Elseif, true) => b"!elif 0",
+        (Word::Elseif, false) => b"!elif 1",
+        (Word::Ifdef, _) => b"!ifdef a",
+        (Word::Ifndef, _) => b"!ifndef",
+        (Word::Else, _) => b"!else x",
+        (Word::Endif, _) => b"!endif x",
+    }
+}
+
+/// The table without one of the records that are named. None if it has none.
+pub fn disturbed_table(rng: &mut Prng, table: &[u8], named: &BTreeSet<Vec<u8>>) -> Option<Vec<u8>> {
+    let records = table.as_chunks::<RECORD>().0;
+    let present: Vec<usize> = (0..records.len())
+        .filter(|&index| named.contains(&name_in(&records[index])))
+        .collect();
+    if present.is_empty() {
+        return None;
+    }
+    let mut second = records.to_vec();
+    second.remove(rng.pick(&present));
+    Some(second.concat())
+}
+
+/// The name that a record stands under.
+fn name_in(record: &[u8; RECORD]) -> Vec<u8> {
+    let end = record[..NAME].iter().position(|&byte| byte == 0);
+    record[..end.unwrap_or(NAME)].to_vec()
+}

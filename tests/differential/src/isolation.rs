@@ -1,0 +1,154 @@
+//! Demand 3: what an accepted run does not read makes no difference. Pairs of
+//! files and tables that agree in what is read must get the same answer from
+//! the library, whatever else they hold. Changes of what is read must show.
+
+use crate::gen::settings::{self, Names};
+use crate::gen::{files, short_files, tables, twins};
+use crate::library::Selected;
+use crate::prng::Prng;
+use crate::report::{Mismatch, Tally};
+use crate::selections::{write_selected, Ask};
+use crate::subject::Subject;
+
+/// Files to try until one is accepted.
+const TRIES: usize = 50;
+
+/// More than any file's lines.
+const ROOM: usize = oracle::selection::MAX_LINES;
+
+pub struct Isolation;
+
+impl Subject for Isolation {
+    fn name(&self) -> &'static str {
+        "isolation"
+    }
+
+    fn units(&self) -> (&'static str, &'static str) {
+        ("first files", "changes of what is read that showed")
+    }
+
+    fn needed(&self) -> &'static [u8] {
+        &[]
+    }
+
+    /// Without these a library that always gives the same would pass.
+    fn lacks(&self, random: &Tally) -> Option<String> {
+        let (pairs, showed) = (random.met(0), random.extra);
+        (showed < pairs / 2)
+            .then(|| format!("of {pairs} accepted files, changes showed {showed} times only"))
+    }
+
+    fn fixed(&self, tally: &mut Tally) -> Result<(), Mismatch> {
+        let record = tables::record(b"A", 0, &[0; 8]);
+        for (index, file) in short_files::all().iter().enumerate() {
+            let mut rng = Prng::for_case(1, "short files", index as u64);
+            pair(&mut rng, file, &record, tally)?;
+        }
+        Ok(())
+    }
+
+    fn case(&self, rng: &mut Prng, tally: &mut Tally) -> Result<(), Mismatch> {
+        for _ in 0..TRIES {
+            let table = settings::table(rng);
+            let names = Names::of(&table);
+            let file = files::good(rng, &names);
+            if pair(rng, &file, &table, tally)? {
+                return Ok(());
+            }
+        }
+        Ok(())
+    }
+}
+
+/// Compares the first file, if it is accepted, with a second one.
+fn pair(rng: &mut Prng, file: &[u8], table: &[u8], tally: &mut Tally) -> Result<bool, Mismatch> {
+    let first = Ask {
+        file,
+        table,
+        room: ROOM,
+    };
+    let answer = call(&first, rng.next())?;
+    tally.add(answer.refusal);
+    if answer.refusal != 0 {
+        return Ok(false);
+    }
+    // Which directives are read is the rules' business, not the library's.
+    let Some(marks) = twins::marks(file, table) else {
+        return Err(Mismatch {
+            what: "a file that is to be refused".to_string(),
+            input: first.write(),
+            oracle: "refuses it".to_string(),
+            library: write_selected(&answer),
+        });
+    };
+    let named = twins::named(file, &marks);
+    let second_file = twins::file(rng, file, &marks);
+    let second_table = twins::table(rng, table, &named);
+    let second = Ask {
+        file: &second_file,
+        table: &second_table,
+        room: rng.between(marks.len(), ROOM),
+    };
+    let other = call(&second, rng.next())?;
+    if other != answer {
+        return Err(Mismatch {
+            what: "another answer to a file and a table that agree in what is read".to_string(),
+            input: format!(
+                "{}\n    and the second:\n    {}",
+                first.write(),
+                second.write()
+            ),
+            oracle: format!("the first answer: {}", write_selected(&answer)),
+            library: format!("the second answer: {}", write_selected(&other)),
+        });
+    }
+    disturb(rng, &first, &marks, &answer, tally)?;
+    Ok(true)
+}
+
+/// A change of a read directive has to show; one of a named record may.
+fn disturb(
+    rng: &mut Prng,
+    first: &Ask,
+    marks: &[u8],
+    answer: &Selected,
+    tally: &mut Tally,
+) -> Result<(), Mismatch> {
+    if let Some(file) = twins::disturbed_file(rng, first.file, marks) {
+        let ask = Ask {
+            file: &file,
+            ..*first
+        };
+        let other = call(&ask, rng.next())?;
+        if other == *answer {
+            return Err(Mismatch {
+                what: "the same answer where a read directive is another".to_string(),
+                input: format!(
+                    "{}\n    and the second:\n    {}",
+                    first.write(),
+                    ask.write()
+                ),
+                oracle: "another answer".to_string(),
+                library: write_selected(&other),
+            });
+        }
+        tally.extra += 1;
+    }
+    let named = twins::named(first.file, marks);
+    if let Some(table) = twins::disturbed_table(rng, first.table, &named) {
+        let ask = Ask {
+            table: &table,
+            ..*first
+        };
+        let other = call(&ask, rng.next())?;
+        tally.extra += u64::from(other != *answer);
+    }
+    Ok(())
+}
+
+/// The library's answer, with the marks of the lines alone.
+fn call(ask: &Ask, pattern: u64) -> Result<Selected, Mismatch> {
+    let mut answer = ask.call(pattern).map_err(|what| ask.broken_memory(what))?;
+    answer.marks.truncate(answer.lines as usize);
+    Ok(answer)
+}

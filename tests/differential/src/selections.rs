@@ -1,0 +1,234 @@
+//! Marks of description files: refusals 1 and 3 to 22, and every byte.
+
+use crate::crash;
+use crate::gen::settings::{self, Names};
+use crate::gen::{files, short_files, tables};
+use crate::lent::{Input, Shown};
+use crate::library::{self, Selected};
+use crate::prng::Prng;
+use crate::report::{escaped, Mismatch, Tally};
+use crate::subject::Subject;
+use crate::tables::write_table;
+
+/// Files to a table, so that tables take less of the time.
+const TO_A_TABLE: usize = 3;
+
+pub struct Selections;
+
+impl Subject for Selections {
+    fn name(&self) -> &'static str {
+        "selections"
+    }
+
+    fn units(&self) -> (&'static str, &'static str) {
+        ("files", "lines")
+    }
+
+    fn needed(&self) -> &'static [u8] {
+        &[
+            1, 3, 4, 5, 6, 7, 8, 9, 10, 11, 12, 13, 14, 15, 16, 17, 18, 19, 20, 21, 22,
+        ]
+    }
+
+    fn fixed(&self, tally: &mut Tally) -> Result<(), Mismatch> {
+        without_bytes(tally)?;
+        let record = tables::record(b"A", 0, &[0; 8]);
+        for file in short_files::all() {
+            let lines = line_count(&file);
+            for (table, room) in [(&b""[..], lines + 2), (&record, lines)] {
+                let ask = Ask {
+                    file: &file,
+                    table,
+                    room,
+                };
+                ask.compare(0x77, tally)?;
+            }
+        }
+        for room in 0..6 {
+            for (index, file) in [&b""[..], b"\n", b"a\nb", b"!if 1\n!endif\n\n", b"!"]
+                .into_iter()
+                .enumerate()
+            {
+                for table in [&b""[..], &record, &record[1..]] {
+                    Ask { file, table, room }.compare(index as u64, tally)?;
+                }
+            }
+        }
+        Ok(())
+    }
+
+    fn case(&self, rng: &mut Prng, tally: &mut Tally) -> Result<(), Mismatch> {
+        let table = settings::table(rng);
+        let names = Names::of(&table);
+        for _ in 0..TO_A_TABLE {
+            let file = files::any(rng, &names, &table);
+            let ask = Ask {
+                file: &file,
+                table: &table,
+                room: room(rng, line_count(&file)),
+            };
+            ask.compare(rng.next(), tally)?;
+        }
+        Ok(())
+    }
+}
+
+/// Files, tables and marks of no bytes, at any address.
+fn without_bytes(tally: &mut Tally) -> Result<(), Mismatch> {
+    let mut shown = Shown::new(b"x", 1);
+    let one_line = shown.input();
+    for nowhere in Input::empty_ones() {
+        for empty in Input::empty_ones() {
+            for (file, at) in [(&b""[..], empty), (b"x", one_line)] {
+                let ask = Ask {
+                    file,
+                    table: b"",
+                    room: 0,
+                };
+                let given = library::select_without_marks(nowhere, at, empty, 3);
+                ask.check(given, 3, tally)?;
+                let wide = Ask { room: 2, ..ask };
+                wide.check(library::select(at, empty, 2, 4), 4, tally)?;
+            }
+        }
+    }
+    Ok(())
+}
+
+/// How many lines a file has.
+fn line_count(file: &[u8]) -> usize {
+    oracle::lines::lines(file).count()
+}
+
+/// How many marks are lent, about as many as there are lines.
+fn room(rng: &mut Prng, lines: usize) -> usize {
+    match rng.below(24) {
+        0 => lines.saturating_sub(1),
+        1 => rng.below(lines + 1),
+        2 => lines + 4_096,
+        3..=12 => lines,
+        _ => lines + rng.below(20),
+    }
+}
+
+/// What is asked for, but for the bytes of the marks before the call.
+#[derive(Clone, Copy)]
+pub struct Ask<'a> {
+    pub file: &'a [u8],
+    pub table: &'a [u8],
+    pub room: usize,
+}
+
+impl Ask<'_> {
+    fn compare(&self, pattern: u64, tally: &mut Tally) -> Result<(), Mismatch> {
+        let given = self.call(pattern);
+        self.check(given, pattern, tally)
+    }
+
+    /// Runs the library, and sees that it only reads the file and the table.
+    pub fn call(&self, pattern: u64) -> Result<Selected, String> {
+        let mut shown = Shown::new(self.file, pattern);
+        let mut shown_table = Shown::new(self.table, pattern >> 8);
+        crash::input(self.file);
+        let given = library::select(shown.input(), shown_table.input(), self.room, pattern)?;
+        shown.check("file").and(shown_table.check("table"))?;
+        Ok(given)
+    }
+
+    /// Compares what the library gave with what the oracle gives.
+    fn check(
+        &self,
+        given: Result<Selected, String>,
+        pattern: u64,
+        tally: &mut Tally,
+    ) -> Result<(), Mismatch> {
+        let expected = self.expected(pattern);
+        tally.add(expected.refusal);
+        tally.extra += expected.lines;
+        let given = given.map_err(|what| self.broken_memory(what))?;
+        match difference(&expected, &given) {
+            None => Ok(()),
+            Some(what) => Err(Mismatch {
+                what,
+                input: self.write(),
+                oracle: write_selected(&expected),
+                library: write_selected(&given),
+            }),
+        }
+    }
+
+    /// The oracle's answer in the library's form.
+    fn expected(&self, pattern: u64) -> Selected {
+        let mut marks = vec![pattern as u8; self.room];
+        let outcome = oracle::select(self.file, self.table, &mut marks);
+        let (refusal, line) = outcome.err().unwrap_or((0, 0));
+        let (lines, count) = outcome.unwrap_or((0, 0));
+        Selected {
+            refusal,
+            line: line as u64,
+            lines: lines as u64,
+            count,
+            marks,
+        }
+    }
+
+    pub fn broken_memory(&self, what: String) -> Mismatch {
+        Mismatch {
+            what,
+            input: self.write(),
+            oracle: "does not write there".to_string(),
+            library: "does".to_string(),
+        }
+    }
+
+    pub fn write(&self) -> String {
+        let mut out = format!("{} bytes of marks, {}", self.room, write_table(self.table));
+        out += "\n    under which the file:";
+        let pieces = self.file.split_inclusive(|&byte| byte == b'\n');
+        for (index, piece) in pieces.enumerate() {
+            out += &format!("\n    {:>5} \"{}\"", index + 1, escaped(piece));
+        }
+        out
+    }
+}
+
+fn difference(expected: &Selected, given: &Selected) -> Option<String> {
+    let numbers = |selected: &Selected| {
+        [
+            u64::from(selected.refusal),
+            selected.line,
+            selected.lines,
+            selected.count,
+        ]
+    };
+    let names = [
+        "refusal",
+        "line of the refusal",
+        "number of lines",
+        "count of operators",
+    ];
+    let (expected_numbers, given_numbers) = (numbers(expected), numbers(given));
+    if let Some(place) = (0..4).find(|&place| expected_numbers[place] != given_numbers[place]) {
+        return Some(names[place].to_string());
+    }
+    let place =
+        (0..expected.marks.len()).find(|&place| expected.marks[place] != given.marks[place]);
+    place.map(|place| match place as u64 {
+        line if line < expected.lines => format!("mark of line {}", line + 1),
+        _ => format!("byte {place} of the marks"),
+    })
+}
+
+pub fn write_selected(selected: &Selected) -> String {
+    let mut out = format!(
+        "refusal {}, line {}, {} lines, count {}, marks",
+        selected.refusal, selected.line, selected.lines, selected.count
+    );
+    for run in selected.marks.chunk_by(|one, other| one == other) {
+        out += &match run.len() {
+            1 => format!(" {}", run[0]),
+            times => format!(" {}x{times}", run[0]),
+        };
+    }
+    out
+}
