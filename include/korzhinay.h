@@ -143,11 +143,12 @@ enum korzhinay_datum {
  * then, of the first line that has any:
  *   17  the line is longer than 1,024 bytes, its end left off
  *   18  the letters after `!` are none of the words above, in a dropped branch too
- *   19  a directive without an open !if, !ifdef or !ifndef; or !elseif, !elif or !else after its group's !else; in a dropped branch
- *       too
+ *   19  !elseif, !elif, !else or !endif without an open !if, !ifdef or !ifndef; or !elseif, !elif or !else after its group's !else;
+ *       in a dropped branch too
  *   20  a 17th !if, !ifdef or !ifndef while 16 are open, in a dropped branch too
- *   22  the text after a word that is read is malformed: no blank directly after !if, !ifdef, !ifndef, !elseif or !elif; something
- *       else than one macro name after !ifdef or !ifndef; something else than blanks and a comment after !else or !endif
+ *   22  what follows a word that is read is not what it takes: no blank directly after !if, !ifdef, !ifndef, !elseif or !elif;
+ *       something else than one macro, as NAME or $(NAME), after !ifdef or !ifndef; anything at all after !else or !endif; blanks
+ *       and a comment apart
  *   3 to 12  an expression that is read, as korzhinay_evaluate refuses it (but not 2: a line is too short for that)
  *   13  the value of an expression that is read is neither the number 0 nor the number 1
  * and after the last line:

@@ -27,4 +27,13 @@ extern "C" {
         table_len: usize,
         out: *mut u64,
     ) -> u8;
+    pub fn korzhinay_select(
+        marks: *mut c_void,
+        marks_len: usize,
+        file: *const c_void,
+        file_len: usize,
+        table: *const c_void,
+        table_len: usize,
+        out: *mut u64,
+    ) -> u8;
 }

@@ -3,6 +3,8 @@
 
 mod c;
 mod evaluation;
+mod files;
+mod selection;
 mod settings;
 mod tables;
 mod timing;
@@ -12,5 +14,8 @@ fn main() {
     tokens::time();
     tables::time();
     evaluation::time();
-    println!("Each evaluation and each lookup checks its whole table, on both sides.");
+    selection::time();
+    println!(
+        "Each evaluation, each lookup and each selection checks its whole table, on both sides."
+    );
 }

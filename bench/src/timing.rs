@@ -17,9 +17,14 @@ fn median(rounds: usize, mut work: impl FnMut()) -> Duration {
     times[rounds / 2]
 }
 
-/// Times the same work on both sides and prints the time of one of its `units`.
-pub fn compare(what: &str, units: usize, proved: impl FnMut(), oracle: impl FnMut()) {
-    compare_in(ROUNDS, what, units, proved, oracle);
+/// Times the same work on both sides, prints the time of one of its `units` and gives that of the whole work.
+pub fn compare(
+    what: &str,
+    units: usize,
+    proved: impl FnMut(),
+    oracle: impl FnMut(),
+) -> (Duration, Duration) {
+    compare_in(ROUNDS, what, units, proved, oracle)
 }
 
 /// As `compare`, for work that takes long: in fewer rounds.
@@ -29,7 +34,7 @@ pub fn compare_in(
     units: usize,
     proved: impl FnMut(),
     oracle: impl FnMut(),
-) {
+) -> (Duration, Duration) {
     let (proved, oracle) = (median(rounds, proved), median(rounds, oracle));
     let each = |time: Duration| time.as_nanos() as f64 / units as f64;
     println!(
@@ -38,4 +43,5 @@ pub fn compare_in(
         each(oracle),
         proved.as_secs_f64() / oracle.as_secs_f64()
     );
+    (proved, oracle)
 }

@@ -22,7 +22,8 @@ const USAGE: &str = "usage: korzhinay select [-t TABLE] [--marks] FILE
        korzhinay table TABLE
 
 select  prints the lines of a description file that are kept, as they stand there; with --marks, one mark a line instead:
-        0 plain, dropped; 1 plain, kept; 2 directive not read; 3 read, branch not taken; 4 read, branch taken; 5 read !endif
+        0 a dropped line, 1 a kept one, 2 a directive that was not read, 3 one whose branch is not taken, 4 one whose branch is,
+        5 an !endif that was read
 eval    prints the value of an expression: a number in decimal, a string in double quotes, a wide string with L before them
 field   prints the bytes of a PCD data field in hexadecimal; TYPE is VOID*, BOOLEAN, UINT8, UINT16, UINT32 or UINT64
 tokens  lists the tokens of an expression: where each starts, how many bytes it has, what it is, its text and,

@@ -2,6 +2,7 @@
 
 mod bounds;
 pub mod directives;
+pub mod disturbed;
 pub mod expressions;
 mod extremes;
 pub mod fields;

@@ -3,7 +3,7 @@
 //! the library, whatever else they hold. Changes of what is read must show.
 
 use crate::gen::settings::{self, Names};
-use crate::gen::{files, short_files, tables, twins};
+use crate::gen::{disturbed, files, short_files, tables, twins};
 use crate::library::Selected;
 use crate::prng::Prng;
 use crate::report::{Mismatch, Tally};
@@ -56,7 +56,12 @@ impl Subject for Isolation {
                 return Ok(());
             }
         }
-        Ok(())
+        Err(Mismatch {
+            what: format!("none of {TRIES} files was accepted"),
+            input: "files most of which are made to be accepted".to_string(),
+            oracle: "not asked".to_string(),
+            library: "refuses them all".to_string(),
+        })
     }
 }
 
@@ -114,7 +119,7 @@ fn disturb(
     answer: &Selected,
     tally: &mut Tally,
 ) -> Result<(), Mismatch> {
-    if let Some(file) = twins::disturbed_file(rng, first.file, marks) {
+    if let Some(file) = disturbed::file(rng, first.file, marks) {
         let ask = Ask {
             file: &file,
             ..*first
@@ -135,7 +140,7 @@ fn disturb(
         tally.extra += 1;
     }
     let named = twins::named(first.file, marks);
-    if let Some(table) = twins::disturbed_table(rng, first.table, &named) {
+    if let Some(table) = disturbed::table(rng, first.table, &named) {
         let ask = Ask {
             table: &table,
             ..*first

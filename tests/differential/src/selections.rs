@@ -44,6 +44,7 @@ impl Subject for Selections {
                 ask.compare(0x77, tally)?;
             }
         }
+        long_names(tally)?;
         for room in 0..6 {
             for (index, file) in [&b""[..], b"\n", b"a\nb", b"!if 1\n!endif\n\n", b"!"]
                 .into_iter()
@@ -90,6 +91,26 @@ fn without_bytes(tally: &mut Tally) -> Result<(), Mismatch> {
                 let wide = Ask { room: 2, ..ask };
                 wide.check(library::select(at, empty, 2, 4), 4, tally)?;
             }
+        }
+    }
+    Ok(())
+}
+
+/// Names round the 64 bytes that a record has for one.
+fn long_names(tally: &mut Tally) -> Result<(), Mismatch> {
+    for set in 62..=64 {
+        let table = tables::record(&b"X".repeat(set), 0, &[0; 8]);
+        for asked in 61..=67 {
+            let name = "X".repeat(asked);
+            let file = format!(
+                "!ifdef {name}\na\n!endif\n!ifndef $({name})\nb\n!endif\n!if $({name}) == 0\n!endif"
+            );
+            let ask = Ask {
+                file: file.as_bytes(),
+                table: &table,
+                room: 8,
+            };
+            ask.compare(5, tally)?;
         }
     }
     Ok(())

@@ -11,6 +11,7 @@ pub fn near_a_limit(rng: &mut Prng, names: &Names) -> Vec<u8> {
     match rng.below(6) {
         0 => near_the_size(rng, names),
         1 => near_the_line_count(rng, names),
+        2 => many_operators(rng),
         _ => near_the_line_length(rng, names),
     }
 }
@@ -21,17 +22,20 @@ fn fill(rng: &mut Prng, lines: &mut Vec<Vec<u8>>, more: Vec<Vec<u8>>) {
     lines.splice(at..at, more);
 }
 
-/// From 2 bytes too few to 2 too many.
+/// From 2 bytes too few to 2 too many, sometimes in too many lines as well.
 fn near_the_size(rng: &mut Prng, names: &Names) -> Vec<u8> {
     let size = rng.between(MAX_FILE - 2, MAX_FILE + 2);
     let mut lines = nested(rng, names);
     lines.truncate(40);
-    let width = rng.between(20, MAX_LINE);
+    let width = match rng.below(6) {
+        0 => rng.between(1, 17),
+        _ => rng.between(17, MAX_LINE),
+    };
     let written: usize = lines.iter().map(|line| line.len() + 1).sum();
     let room = size.saturating_sub(written);
     let mut more = vec![b"x".repeat(width - 1); room / width];
-    if room % width > 0 {
-        more.push(b"y".repeat(room % width - 1));
+    if let Some(rest) = (room % width).checked_sub(1) {
+        more.push(b"y".repeat(rest));
     }
     fill(rng, &mut lines, more);
     let mut file = lines.join(&b'\n');
@@ -69,4 +73,21 @@ fn near_the_line_length(rng: &mut Prng, names: &Names) -> Vec<u8> {
         line.extend(b"\r");
     }
     join(rng, &lines)
+}
+
+/// Conditions with up to 199 operators each, so that their sum does not fit
+/// a byte, or even two.
+fn many_operators(rng: &mut Prng) -> Vec<u8> {
+    let groups = match rng.below(4) {
+        0 => rng.between(250, 310),
+        _ => rng.between(1, 12),
+    };
+    let lines: Vec<Vec<u8>> = (0..groups)
+        .flat_map(|_| {
+            let operators = b"!".repeat(rng.between(150, 199));
+            let condition = [b"!if ", &operators[..], b"0"].concat();
+            [condition, b"!endif".to_vec()]
+        })
+        .collect();
+    lines.join(&b'\n')
 }

@@ -7,12 +7,13 @@ use super::settings::{Kind, Names};
 use super::values;
 use crate::prng::Prng;
 
-/// The words of directives, each with those that it may be taken for.
+/// The words after `!`, the likelier ones more than once.
 #[rustfmt::skip]
 pub const WORDS: &[&str] = &[
     "if", "if", "ifdef", "ifndef", "elseif", "elif", "else", "endif", "endif", "endif", "include", "error",
 ];
 
+/// What is none of them, or only begins like one.
 #[rustfmt::skip]
 pub const NEARLY_WORDS: &[&str] = &[
     "", " if", "If", "IF", "ifd", "ifx", "ifde", "ifdefs", "ifndefs", "ifelse", "elsif", "else if", "elseiff",
@@ -100,12 +101,13 @@ fn written(name: Vec<u8>) -> Vec<u8> {
 pub fn name(rng: &mut Prng, names: &Names) -> Vec<u8> {
     let kind = rng.pick(&[Kind::Number, Kind::Number, Kind::Text, Kind::Wide]);
     let long = rng.pick(&[63, 64, 65, 66]);
-    let name = match rng.below(16) {
+    let name = match rng.below(17) {
         0 => rng.pick(&NUMBERS).as_bytes().to_vec(),
         1 => rng.pick(&TEXTS).as_bytes().to_vec(),
         2 => rng.pick(&WIDES).as_bytes().to_vec(),
         3 => macro_name(rng, long),
         4 => b"NOPE".to_vec(),
+        5 => [&names.pick(rng, kind)[..], b"A"].concat(),
         _ => names.pick(rng, kind),
     };
     // A PCD is no macro, so its first run is asked for, but for a few.

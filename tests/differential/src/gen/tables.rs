@@ -220,7 +220,7 @@ fn damage_order(rng: &mut Prng, table: &[u8], all: &mut Vec<Damaged>) {
 }
 
 /// The name in a record, without its padding.
-fn name_in(record: &[u8]) -> &[u8] {
+pub fn name_in(record: &[u8]) -> &[u8] {
     let end = record[..NAME].iter().position(|&byte| byte == 0);
     &record[..end.unwrap_or(NAME)]
 }

@@ -5,10 +5,11 @@ use std::collections::{BTreeMap, BTreeSet};
 
 use oracle::lines::{lines, sort, Line, Word};
 use oracle::selection::{mark, MAX_FILE, MAX_LINE, MAX_LINES};
-use oracle::table::{MAX_RECORDS, NAME, RECORD};
+use oracle::table::{MAX_RECORDS, RECORD};
 use oracle::tokens::code;
 
 use super::directives::{plain, rubbish, BLANKS};
+use super::tables::name_in;
 use super::{settings, tables};
 use crate::prng::Prng;
 
@@ -165,77 +166,16 @@ pub fn table(rng: &mut Prng, table: &[u8], named: &BTreeSet<Vec<u8>>) -> Vec<u8>
     };
     let mut second: BTreeMap<Vec<u8>, [u8; RECORD]> = BTreeMap::new();
     for record in table.as_chunks::<RECORD>().0 {
-        let name = name_in(record);
+        let name = name_in(record).to_vec();
         if named.contains(&name) || rng.one_in(2) {
             second.insert(name, *record);
         }
     }
     for record in other.as_chunks::<RECORD>().0 {
-        let name = name_in(record);
+        let name = name_in(record).to_vec();
         if !named.contains(&name) && second.len() < MAX_RECORDS {
             second.insert(name, *record);
         }
     }
     second.into_values().flatten().collect()
-}
-
-/// The file with one read directive changed so that its mark is another, or
-/// its text is malformed. None if it reads none.
-pub fn disturbed_file(rng: &mut Prng, file: &[u8], marks: &[u8]) -> Option<Vec<u8>> {
-    let read: Vec<usize> = (0..marks.len())
-        .filter(|&index| marks[index] >= mark::NOT_TAKEN)
-        .collect();
-    if read.is_empty() {
-        return None;
-    }
-    let chosen = rng.pick(&read);
-    let mut second = Vec::new();
-    for (index, line) in lines(file).enumerate() {
-        match sort(line) {
-            Ok(Line::Directive { word, .. }) if index == chosen => {
-                let taken = marks[index] == mark::TAKEN;
-                second.extend(other_outcome(word, taken));
-            }
-            _ => second.extend(line),
-        }
-        second.extend(if line.ends_with(b"\r") {
-            &b"\r\n"[..]
-        } else {
-            b"\n"
-        });
-    }
-    Some(second)
-}
-
-fn other_outcome(word: Word, taken: bool) -> &'static [u8] {
-    match (word, taken) {
-        (Word::If, true) => b"!if 0",
-        (Word::If, false) => b"!if 1",
-        (Word::Elseif, true) => b"!elif 0",
-        (Word::Elseif, false) => b"!elif 1",
-        (Word::Ifdef, _) => b"!ifdef a",
-        (Word::Ifndef, _) => b"!ifndef",
-        (Word::Else, _) => b"!else x",
-        (Word::Endif, _) => b"!endif x",
-    }
-}
-
-/// The table without one of the records that are named. None if it has none.
-pub fn disturbed_table(rng: &mut Prng, table: &[u8], named: &BTreeSet<Vec<u8>>) -> Option<Vec<u8>> {
-    let records = table.as_chunks::<RECORD>().0;
-    let present: Vec<usize> = (0..records.len())
-        .filter(|&index| named.contains(&name_in(&records[index])))
-        .collect();
-    if present.is_empty() {
-        return None;
-    }
-    let mut second = records.to_vec();
-    second.remove(rng.pick(&present));
-    Some(second.concat())
-}
-
-/// The name that a record stands under.
-fn name_in(record: &[u8; RECORD]) -> Vec<u8> {
-    let end = record[..NAME].iter().position(|&byte| byte == 0);
-    record[..end.unwrap_or(NAME)].to_vec()
 }

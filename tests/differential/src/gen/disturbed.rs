@@ -1,0 +1,66 @@
+//! A first file or table with a change in what an accepted run reads, so that
+//! it is seen whether such a change shows.
+
+use std::collections::BTreeSet;
+
+use oracle::lines::{lines, sort, Line, Word};
+use oracle::selection::mark;
+use oracle::table::RECORD;
+
+use super::tables::name_in;
+use crate::prng::Prng;
+
+/// The file with one read directive changed so that its mark is another, or
+/// its text is malformed. None if it reads none.
+pub fn file(rng: &mut Prng, file: &[u8], marks: &[u8]) -> Option<Vec<u8>> {
+    let read: Vec<usize> = (0..marks.len())
+        .filter(|&index| marks[index] >= mark::NOT_TAKEN)
+        .collect();
+    if read.is_empty() {
+        return None;
+    }
+    let chosen = rng.pick(&read);
+    let mut second = Vec::new();
+    for (index, line) in lines(file).enumerate() {
+        match sort(line) {
+            Ok(Line::Directive { word, .. }) if index == chosen => {
+                let taken = marks[index] == mark::TAKEN;
+                second.extend(other_outcome(word, taken));
+            }
+            _ => second.extend(line),
+        }
+        second.extend(if line.ends_with(b"\r") {
+            &b"\r\n"[..]
+        } else {
+            b"\n"
+        });
+    }
+    Some(second)
+}
+
+fn other_outcome(word: Word, taken: bool) -> &'static [u8] {
+    match (word, taken) {
+        (Word::If, true) => b"!if 0",
+        (Word::If, false) => b"!if 1",
+        (Word::Elseif, true) => b"!elif 0",
+        (Word::Elseif, false) => b"!elif 1",
+        (Word::Ifdef, _) => b"!ifdef a",
+        (Word::Ifndef, _) => b"!ifndef",
+        (Word::Else, _) => b"!else x",
+        (Word::Endif, _) => b"!endif x",
+    }
+}
+
+/// The table without one of the records that are named. None if it has none.
+pub fn table(rng: &mut Prng, table: &[u8], named: &BTreeSet<Vec<u8>>) -> Option<Vec<u8>> {
+    let records = table.as_chunks::<RECORD>().0;
+    let present: Vec<usize> = (0..records.len())
+        .filter(|&index| named.contains(name_in(&records[index])))
+        .collect();
+    if present.is_empty() {
+        return None;
+    }
+    let mut second = records.to_vec();
+    second.remove(rng.pick(&present));
+    Some(second.concat())
+}
