@@ -1,6 +1,9 @@
 //! Times the proved library beside the independent Rust implementation, on the same inputs: medians of 21 rounds, or of as many as
 //! a line says; release builds.
 
+// the command's declarations; not every call is timed
+#[allow(dead_code)]
+#[path = "../../cli/src/c.rs"]
 mod c;
 mod evaluation;
 mod files;
