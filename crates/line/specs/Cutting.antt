@@ -1,7 +1,7 @@
 -- A file cut into its lines from the front: what functions between the layers promise each other.
 use Prim.Native.Nat.{ℕ, _+_, _-_, _≤_, _<_}
 use mathlib.Core.Path.{_≡_}
-use mathlib.Core.Bool.{_&&_}
+use mathlib.Core.Bool.{Bool, not, _&&_}
 use mathlib.Core.List.{List, _∷_}
 use lib.ListN.{length, getD, take, drop}
 use lib.Dec.{eqb, ltb}
@@ -32,3 +32,7 @@ pub record HandsText (l r : RefT (List ℕ)) : Type 0 where
 -- is dropped. (The contract of a private function cites this; no public promise does.)
 unfoldable pub lineEnd : List ℕ → ℕ → ℕ → ℕ
 lineEnd f from lf = pick (ltb lf (length f) && (ltb from lf && eqb (getD f (lf - 1) 0) (byte "\r"))) (lf - 1) lf
+
+-- Whether a line has begun before byte i that has not ended. (Likewise.)
+unfoldable pub opened : List ℕ → ℕ → Bool
+opened f i = ltb 0 i && not (eqb (getD f (i - 1) 0) (byte "\n"))

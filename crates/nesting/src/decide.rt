@@ -10,6 +10,7 @@ use units::LineNumber;
 ghost use Prim.Native.Nat.{_≤_, _<_};
 ghost use Rattle.nesting.specs.Decide.{State, plain as plainOf, opening, decided};
 ghost use Rattle.nesting.specs.Stack.{Represents, Meets};
+ghost use Rattle.condition.specs.declared.Condition.the-variants.{Fails};
 
 // A new group in line n: 20 before anything its text says.
 fn open_group(c: Condition, n: LineNumber, x: Selection) -> Step
@@ -61,5 +62,16 @@ pub fn decide(d: Directive, c: Condition, n: LineNumber, x: Selection) -> Step
         ),
         Directive::Endif => stack::apply(rules::end_ruling(c, stack::standing(x)), x),
         Directive::Unknown => stack::refused(units::WORD_UNKNOWN, x),
+    }
+}
+
+// Line n where it is not read. Most such lines are plain and leave the selection as it is, so these need no more than their mark.
+pub fn unread(d: Directive, n: LineNumber, x: Selection) -> Step
+    requires { ⌜ (x .depth ≤ 16) × (n .0 < 65536) ⌝ }
+    ensures { λ z. ⌜ ((t : State) → Represents x t → Meets x z (decided d (Fails 0) (n .0) (t .count) (t .groups))) ⌝ }
+{
+    match d {
+        Directive::Plain => plain(x),
+        _ => decide(d, Condition::Fails(0), n, x),
     }
 }

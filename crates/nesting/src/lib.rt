@@ -38,8 +38,9 @@ pub struct Selection {
 
 // What a line comes to: its mark and the selection after it, or the number of the refusal, and then the selection as it was and the mark 0.
 pub struct Step {
+    // first, so that it is copied as a whole
+    pub next: Selection,
     pub ok: bool,
     pub number: u8,
     pub mark: u8,
-    pub next: Selection,
 }

@@ -50,7 +50,7 @@ pub fn step<'a>(table: &'a [u8], n: LineNumber, x: Selection, line: &'a [u8]) ->
     }
     let d = word::directive(line);
     if !rules::reads(d, stack::standing(x)) {
-        return decide::decide(d, Condition::Fails(0), n, x);
+        return decide::unread(d, n, x);
     }
     let c = condition::says(table, d, word::text(line));
     let z = decide::decide(d, c, n, counted(x, count_of(c)));

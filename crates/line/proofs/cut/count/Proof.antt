@@ -1,40 +1,75 @@
--- What is counted and the lines from the place reached on make up all lines; a line takes at least one byte, so the count fits.
+-- The LFs so far, and the lines that have begun and not ended or are still to come, make up all lines.
 use Prim.Native.Nat.{_≤_, _+_, _-_}
 use native.Mathlib.Omega.{arith}
-use mathlib.Core.Path.{_≡_, ap}
-use lib.ListN.{length, drop, drop-of-length-le}
+use mathlib.Core.Path.{_≡_, sym, _∙_}
+use mathlib.Core.Bool.{true, false}
+use mathlib.Core.Logic.{⊎-elim}
+use lib.ListN.{length}
 use Rattle.line.specs.Lines.{lines}
+use Rattle.line.specs.Cutting.{opened}
+use Rattle.line.proofs.Counting.{left, left-ends, left-goes, left-over}
 use borrow.Author.Needs.{needs}
 use Rattle.line.proofs.cut.count.Statement.{statement}
 use Rattle.line.proofs.cut.count.Tie as tie
 
 abbrev Inv-loop : tie.InvT-loop
-Inv-loop file n₀ at₀ n at = (n ≤ at) × (length (lines file) ≡ n + length (lines (drop at file)))
+Inv-loop file n₀ i₀ n i = (n ≤ i) × (i ≤ length file) × (length (lines file) ≡ n + left file i)
 
 abbrev μ-loop : tie.MeasureT-loop
-μ-loop file n₀ at₀ n at = length file - at
+μ-loop file n₀ i₀ n i = length file - i
 
 loop-holds : tie.Need-loop-holds Inv-loop μ-loop
-loop-holds c = (omega arith, omega arith)
+unfolding opened
+loop-holds c = (omega arith, omega arith, omega arith)
 
-next-requires : tie.Need-next-requires Inv-loop μ-loop
-next-requires c κs = search needs
+shared-slice-read-if1 : tie.Need-shared-slice-read-if1 Inv-loop μ-loop
+shared-slice-read-if1 c = omega arith
 
 add-n : tie.Need-add-n Inv-loop μ-loop
 add-n c = omega arith
+
+add-i : tie.Need-add-i Inv-loop μ-loop
+add-i c = omega arith
 
 loop-less : tie.Need-loop-less Inv-loop μ-loop
 loop-less c = omega arith
 
 loop-again : tie.Need-loop-again Inv-loop μ-loop
-loop-again c = (omega arith, omega (arith, ap length (c .before .next .ensures .first)))
+loop-again c =
+    let f = (c .before .before .before .before .before .args .file .now) in
+    let i = (c .before .before .before .loop .i) in
+    ⊎-elim
+    (λ w. (omega arith, omega arith, omega (arith, left-ends f i (omega arith) (omega arith))))
+    (λ w. (omega arith, omega arith, omega (arith, left-goes f i (omega arith) (λ e. omega arith))))
+    (c .if1 .came)
+
+is-open-requires : tie.Need-is-open-requires Inv-loop μ-loop
+is-open-requires c κs = search needs
+
+add-result : tie.Need-add-result Inv-loop μ-loop
+add-result c = omega arith
 
 returns : tie.Need-returns Inv-loop μ-loop
-unfolding lines
-returns c = let f = c .before .before .before .args .file .now in
-    omega (arith, ap (λ s. length (lines s)) (drop-of-length-le f (c .loop-test .left)))
+returns c = let f = (c .before .before .before .before .before .args .file .now) in let i = (c .before .before .before .loop .i) in
+    omega (arith, left-over f i (omega arith) true (sym (c .before .is-open .ensures) ∙ c .if2 .taken))
+
+returns-2 : tie.Need-returns-2 Inv-loop μ-loop
+returns-2 c = let f = (c .before .before .before .before .before .args .file .now) in let i = (c .before .before .before .loop .i) in
+    omega (arith, left-over f i (omega arith) false (sym (c .before .is-open .ensures) ∙ c .if2 .left))
 
 pub count-spec : {M : Type 1} → statement M
 count-spec =
     tie.close
-    (tie.spec Inv-loop μ-loop loop-holds next-requires add-n loop-less loop-again returns)
+    (tie.spec
+    Inv-loop
+    μ-loop
+    loop-holds
+    shared-slice-read-if1
+    add-n
+    add-i
+    loop-less
+    loop-again
+    is-open-requires
+    add-result
+    returns
+    returns-2)
