@@ -1,13 +1,14 @@
-"""Runs the command as people run it: the cases, and runs in several steps. The last line says how many passed and
+"""Runs the command as people run it: the cases, runs in several steps, and the man page. The last line says how many passed and
 failed."""
 import itertools
 import sys
 
 import cases
+import manual
 import steps
 
 passed = failed = 0
-for name, got, wanted in itertools.chain(cases.checks(), steps.checks()):
+for name, got, wanted in itertools.chain(cases.checks(), steps.checks(), manual.checks()):
     if got == wanted:
         passed += 1
     else:
