@@ -27,7 +27,7 @@ target/korzhinay: $(LIB) $(wildcard cli/*.toml cli/*.rs cli/src/*.rs)
 	cp target/cargo/release/korzhinay $@
 
 run: all
-	target/korzhinay select -t examples/settings.bin examples/window-right.dsc
+	target/korzhinay select -s examples/buoy.settings --annotate examples/window-right.dsc
 
 test:
 	.ci/run
