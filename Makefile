@@ -1,16 +1,17 @@
-# make          the static and the shared library and the command
-# make run      the main job on an example
-# make test     the gate: proofs, must-fail edits, tests (what .ci/run runs)
-# make bench    speed beside the independent Rust implementation
-# make fuzz     differential tests for SECONDS seconds (default 60)
-# make clean    removes everything that was made
+# make            the static and the shared library and the command
+# make run        the main job on an example
+# make test       the gate: proofs, must-fail edits, tests (what .ci/run runs)
+# make documents  runs every example of the manual and the README
+# make bench      speed beside the independent Rust implementation
+# make fuzz       differential tests for SECONDS seconds (default 60)
+# make clean      removes everything that was made
 
 SECONDS ?= 60
 LIB := target/staticlib/libkorzhinay.a
 SOURCES := crates.txt $(shell find crates -type f)
 CARGO := CARGO_TARGET_DIR=$(CURDIR)/target/cargo KORZHINAY_LIB_DIR=$(CURDIR)/target/staticlib cargo
 
-.PHONY: all run test bench fuzz clean
+.PHONY: all run test documents bench fuzz clean
 
 all: target/libkorzhinay.so target/korzhinay
 
@@ -26,10 +27,13 @@ target/korzhinay: $(LIB) $(wildcard cli/*.toml cli/*.rs cli/src/*.rs)
 	cp target/cargo/release/korzhinay $@
 
 run: all
-	target/korzhinay select -t examples/settings.bin examples/window-right.dsc
+	target/korzhinay select -s examples/buoy.settings --annotate examples/window-right.dsc
 
 test:
 	.ci/run
+
+documents: all
+	python3 tests/documents/run.py
 
 bench: $(LIB)
 	cd bench && $(CARGO) run --offline --release --quiet

@@ -1,8 +1,12 @@
 /* Korzhinay: the calls that C, Rust and Python can make.
  *
- * Every call is total: it answers for any bytes. A pointer with a length of 0 is not read and may be null.
- * Lent arrays are written as each call says, and nowhere else; they must not overlap what the same call reads. The library keeps no
- * state.
+ * Every call is total: it answers for any bytes, and a caller has nothing to check before. What C itself asks for remains: a pointer is
+ * good for the length that comes with it or that its type names. A pointer with a length of 0 is neither read nor written and may be
+ * null. Lent arrays are written as each call says, and nowhere else; they must not overlap each other or what the same call reads. The
+ * library keeps no state, so calls may run at the same time.
+ *
+ * Refusals have numbers from 1 to 26; korzhinay_meaning, at the end, has their meanings. docs/LANGUAGE.md describes the language, with an
+ * example of each refusal.
  */
 #ifndef KORZHINAY_H
 #define KORZHINAY_H
@@ -14,21 +18,33 @@
 extern "C" {
 #endif
 
-/* Whether a table of settings is well formed: 0, or the refusal number 1. */
+/* Whether a table of settings is well formed: 0, or the refusal number 1.
+ * A table is 0 to 512 records of 128 bytes and nothing else, the 64 bytes of their names strictly ascending. A record:
+ *   0 to 63    the name, then zeros, of which a name of 64 bytes has none. A macro's name is A-Z, then A-Z, 0-9 and _; a PCD's is two
+ *              runs of letters, digits and _ joined by a dot, neither starting with a digit
+ *   64         the kind, one of enum korzhinay_kind
+ *   65         the content's length: 8 for a number, 0 to 56 for a string
+ *   66 to 71   zeros
+ *   72 to 127  the content, then zeros; a number is little endian, a string any bytes */
 uint8_t korzhinay_table(const uint8_t *table, size_t table_len);
 
-/* What stands under a name in a table: 0 and the answer, or the refusal number 1 where the table is malformed, and out stays.
- *   out[0]  the kind: 0 a number, 1 a string, 2 a wide string, 255 no such name
- *   out[1]  the number; for a string where its bytes start in the table; 0 where there is no such name
- *   out[2]  the string's length; 0 for a number and where there is no such name */
+/* What stands under a name in a table: 0 and the answer, or the refusal number 1 where the table is malformed, and out stays. The name
+ * comes without padding and, if it is a macro's, without `$(` and `)`; bytes that are no name, or over 64, stand in no table.
+ *   out[0]  the kind, one of enum korzhinay_kind; 255 where there is no such name
+ *   out[1]  the number; for a string, of either kind, where its bytes start in the table, also if it has none; 0 without such a name
+ *   out[2]  the string's length; 0 for a number and without such a name */
 uint8_t korzhinay_lookup(const uint8_t *table, size_t table_len, const uint8_t *name, size_t name_len, uint64_t out[3]);
 
-/* The tokens of an expression.
- *   out[0]  0, or the refusal number: 2 the expression is longer than 1,024 bytes; 3 no token can be read at some byte;
- *           4 a number literal is above 2^64 - 1; 5 something follows token 200; 6 at some token `(` outnumber `)` by more than 16
- *   out[1]  how many tokens were read: all of them with 0 and 6, none with 2, those before the fault with 3, 4 and 5
- * Of each token that was read: its code, where it starts, how many bytes it has, and the value of a number literal or a truth
- * word (0 for any other). Entries past out[1] stay as they were. */
+/* The tokens of an expression. Blanks (0x20, 0x09) are none, and `#` outside quotes ends the expression.
+ *   out[0]  0, or the refusal number, of which the first that applies is given, but of 3, 4 and 5 the leftmost:
+ *            2  the expression is longer than 1,024 bytes
+ *            3  no token can be read at some byte
+ *            4  a number literal is above 2^64 - 1
+ *            5  something follows token 200, be it a token or not; blanks and a comment may
+ *            6  at some token `(` outnumber `)` by more than 16
+ *   out[1]  how many tokens were read: all of them with 0 and 6, none with 2, those before the fault with 3 and 4, 200 with 5
+ * Of each token that was read: its code, one of enum korzhinay_code; where it starts, counted from 0; how many bytes it has, quotes and
+ * `L`, or `$(` and `)`, included; and the value of a number literal or a truth word (0 for any other). Entries from out[1] on stay. */
 void korzhinay_tokens(const uint8_t *expression, size_t expression_len, uint64_t out[2], uint8_t codes[200],
                       uint16_t starts[200], uint16_t lens[200], uint64_t values[200]);
 
@@ -70,8 +86,9 @@ enum korzhinay_code {
 
 /* The value of an expression under a table: 0 and the answer, or the refusal number, and then all six numbers are 0.
  *   out[0]  the kind, one of enum korzhinay_kind
- *   out[1]  the number; 0 for a string
- *   out[2]  how many operators were applied: every unary or binary one and every `?:` that was reached; parentheses are none
+ *   out[1]  the number; 0 for a string, of either kind
+ *   out[2]  how many operators were applied: every unary or binary one and every `?:` that was reached, those in skipped operands not,
+ *           parentheses none; less than the number of tokens
  *   out[3]  in which of the caller's arrays a string's bytes stand, one of enum korzhinay_memory; 0 for a number
  *   out[4]  where they start in it; 0 for a number. An empty string starts between its quotes, or at byte 72 of its record
  *   out[5]  how many they are, quotes left off; 0 for a number
@@ -84,10 +101,10 @@ enum korzhinay_code {
  *    6  at some token `(` outnumber `)` by more than 16
  *    7  the tokens form no expression, or there are none
  *    8  `|` or `||` stands outside parentheses
- *    9  a PCD is not in the table, in an operand that evaluation would skip too
+ *    9  a PCD is not in the table, in an operand that evaluation would skip too; a macro that is not in it is the number 0
  *   10  an operator does not take operands of these kinds, in an operand that evaluation would skip too
- *   11  a result is below 0 or above 2^64 - 1
- *   12  zero divisor */
+ *   11  a result is below 0 or above 2^64 - 1; a left shift pushes a one out of the 64 bits
+ *   12  zero divisor, of / or % */
 uint8_t korzhinay_evaluate(const uint8_t *expression, size_t expression_len, const uint8_t *table, size_t table_len,
                            uint64_t out[6]);
 
@@ -108,9 +125,10 @@ enum korzhinay_memory {
  * past it stay. With a refusal *length is 0 and every byte of buffer stays.
  * The field is a number in 1, 1, 2, 4 or 8 bytes, little endian, for BOOLEAN and UINT8 to UINT64; for VOID* it is a string and one
  * zero byte, or a wide string as two bytes for each of its own, that one and a zero, and two zero bytes.
+ * No field has more than 2,044 bytes: a buffer of so many is enough.
  * Refusals: those of korzhinay_evaluate, 1 to 12; then, of which the first that applies is given:
  *   23  datum is none of enum korzhinay_datum
- *   24  the value's kind does not suit the datum: a number for VOID*, or a string for any other
+ *   24  the value's kind does not suit the datum: a number for VOID*, or a string of either kind for any other
  *   25  the number is too large for the datum; for BOOLEAN it is above 1
  *   26  buffer is shorter than the field */
 uint8_t korzhinay_field(uint8_t *buffer, size_t buffer_len, const uint8_t *expression, size_t expression_len,
@@ -132,24 +150,27 @@ enum korzhinay_datum {
  *   out[0]  the line of the refusal, counted from 1; 0 without one, and for 1, 14, 15 and 16, which are of no line
  *   out[1]  how many lines the file has; 0 with a refusal
  *   out[2]  how many operators were applied in all expressions that were read, summed up; 0 with a refusal
- * A line ends at LF, and a CR right before that LF is part of the end. What follows the last LF is a line if it has any byte. A
- * line whose first byte, blanks left out, is `!` is a directive: !if !ifdef !ifndef !elseif !elif !else !endif; but !include and
- * !error lines are plain, as all others are.
+ * A line ends at LF, and a CR right before that LF is part of the end. What follows the last LF is a line if it has any byte. No file
+ * that is accepted has more than 4,096 lines: marks of so many bytes are enough.
+ * A line whose first byte, blanks left out, is `!` has as its word the letters after it, in which case matters. It is a directive if
+ * the word is if, ifdef, ifndef, elseif, elif (the same as elseif), else or endif; include and error make it plain, as all other lines
+ * are. !if and !elseif are true where the expression after them is 1, !ifdef where the table has the macro's name, whatever its value,
+ * !ifndef where it has not. Of a group the first branch that is true is taken, and an !else's if none is.
  * Refusals, of which the first that applies is given; before all lines:
  *    1  the table is malformed
  *   14  the file is longer than 65,536 bytes
  *   15  the file has more than 4,096 lines
  *   16  marks has fewer bytes than the file has lines
  * then, of the first line that has any:
- *   17  the line is longer than 1,024 bytes, its end left off
- *   18  the letters after `!` are none of the words above, in a dropped branch too
+ *   17  the line, of whatever sort, is longer than 1,024 bytes, its end left off
+ *   18  the letters after `!` are none of the nine words above, or there are none; in a dropped branch too
  *   19  !elseif, !elif, !else or !endif without an open !if, !ifdef or !ifndef; or !elseif, !elif or !else after its group's !else;
  *       in a dropped branch too
  *   20  a 17th !if, !ifdef or !ifndef while 16 are open, in a dropped branch too
  *   22  what follows a word that is read is not what it takes: no blank directly after !if, !ifdef, !ifndef, !elseif or !elif;
  *       something else than one macro, as NAME or $(NAME), after !ifdef or !ifndef; anything at all after !else or !endif; blanks
  *       and a comment apart
- *   3 to 12  an expression that is read, as korzhinay_evaluate refuses it (but not 2: a line is too short for that)
+ *   3 to 12  an expression that is read, as korzhinay_evaluate refuses it (a line is too short for 2)
  *   13  the value of an expression that is read is neither the number 0 nor the number 1
  * and after the last line:
  *   21  an !if, !ifdef or !ifndef is still open; the line is that of the innermost one */
@@ -167,6 +188,41 @@ enum korzhinay_mark {
     KORZHINAY_MARK_END = 5,       /* an !endif that was read */
     KORZHINAY_MARK_REFUSED = 255  /* every byte of marks after a refusal */
 };
+
+/* What a refusal number means, for messages. */
+static inline const char *korzhinay_meaning(uint8_t number)
+{
+    switch (number) {
+    case 0: return "no refusal";
+    case 1: return "the table of settings is malformed";
+    case 2: return "the expression is longer than 1,024 bytes";
+    case 3: return "no token can be read at some byte";
+    case 4: return "a number literal is above 2^64 - 1";
+    case 5: return "something follows token 200";
+    case 6: return "at some token `(` outnumber `)` by more than 16";
+    case 7: return "the tokens form no expression";
+    case 8: return "`|` or `||` stands outside parentheses";
+    case 9: return "a PCD is not in the table";
+    case 10: return "an operator does not take operands of these kinds";
+    case 11: return "a result is below 0 or above 2^64 - 1";
+    case 12: return "zero divisor";
+    case 13: return "a condition has to be the number 0 or the number 1";
+    case 14: return "the file is longer than 65,536 bytes";
+    case 15: return "the file has more than 4,096 lines";
+    case 16: return "there are fewer marks than lines";
+    case 17: return "the line is longer than 1,024 bytes";
+    case 18: return "unknown directive";
+    case 19: return "the directive has no open `!if`, or comes after its `!else`";
+    case 20: return "16 groups are open already";
+    case 21: return "this `!if` is still open at the end of the file";
+    case 22: return "the text after the directive's word is not what it takes";
+    case 23: return "unknown datum type";
+    case 24: return "the value's kind does not suit the datum type";
+    case 25: return "the number is too large for the datum type";
+    case 26: return "the buffer is shorter than the field";
+    default: return "unknown refusal";
+    }
+}
 
 #ifdef __cplusplus
 }

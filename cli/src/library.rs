@@ -15,6 +15,14 @@ pub enum Value<'a> {
     Wide(&'a [u8]),
 }
 
+/// The codes of the tokens that a setting can be made of.
+pub const NUMBER: u8 = 0;
+pub const TRUTH: u8 = 1;
+pub const STRING: u8 = 2;
+pub const WIDE: u8 = 3;
+pub const MACRO: u8 = 4;
+pub const PCD: u8 = 5;
+
 /// One token of an expression.
 pub struct Token {
     pub code: u8,
@@ -92,6 +100,13 @@ pub fn tokens(expression: &[u8]) -> Tokens {
         read,
         refusal: (out[0] != 0).then_some(out[0] as u8),
     }
+}
+
+/// The token that a text is as a whole, if it is one.
+pub fn only_token(text: &[u8]) -> Option<Token> {
+    let found = tokens(text);
+    let [token] = <[Token; 1]>::try_from(found.read).ok()?;
+    (found.refusal.is_none() && token.len == text.len()).then_some(token)
 }
 
 /// The value of an expression under a table, or the refusal number.

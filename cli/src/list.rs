@@ -1,25 +1,21 @@
-//! The words that list: `tokens` and `table`.
+//! The subcommands that list: `tokens` and `table`.
 
-use crate::library;
-use crate::outcome::{name, print, read, Stop};
-use crate::value::write;
-use crate::words;
+use crate::files::{self, print};
+use crate::library::{self, Value};
+use crate::options::Request;
+use crate::outcome::{refused, Stop};
+use crate::record::{self, RECORD_LENGTH};
+use crate::value::{hexadecimal, write};
+use crate::{table, words};
 
-pub fn tokens(expression: &[u8]) -> Result<(), Stop> {
+pub fn tokens(request: &Request) -> Result<(), Stop> {
+    let expression = request.operand();
     let found = library::tokens(expression);
     let mut text = Vec::new();
     for token in &found.read {
-        let spelling = &expression[token.start..][..token.len];
-        text.extend(
-            format!(
-                "{:>4} {:>4}  {:<11}  ",
-                token.start,
-                token.len,
-                words::code(token.code)
-            )
-            .bytes(),
-        );
-        text.extend(spelling);
+        let code = words::code(token.code);
+        text.extend(format!("{:>4} {:>4}  {code:<11}  ", token.start, token.len).bytes());
+        text.extend(&expression[token.start..][..token.len]);
         if token.code <= 1 {
             text.extend(format!("  = {}", token.value).bytes());
         }
@@ -28,30 +24,57 @@ pub fn tokens(expression: &[u8]) -> Result<(), Stop> {
     print(&text)?;
     match found.refusal {
         None => Ok(()),
-        Some(number) => Err(Stop::Refused("expression".into(), number)),
+        Some(number) => Err(refused(b"expression", number)),
     }
 }
 
-pub fn table(file: &[u8]) -> Result<(), Stop> {
-    let bytes = read(file)?;
-    if let Some(number) = library::check_table(&bytes) {
-        return Err(Stop::Refused(name(file), number));
+pub fn table(request: &Request) -> Result<(), Stop> {
+    let output = request.one("-o");
+    if output.is_none() && !["-D", "-s", "-t"].iter().any(|option| request.has(option)) {
+        return Err(Stop::Usage("no settings to list".into()));
     }
+    let table = table::of(request)?;
+    match output {
+        Some(file) => files::write(file, &table),
+        None => print(&listing(&table)),
+    }
+}
+
+/// The settings of a table, as a file of settings holds them.
+fn listing(table: &[u8]) -> Vec<u8> {
     let mut text = Vec::new();
-    for record in bytes.chunks(128) {
-        let name = record[..64]
-            .split(|byte| *byte == 0)
-            .next()
-            .unwrap_or_default();
-        text.extend(name);
-        match library::lookup(&bytes, name) {
-            Some(value) => {
-                text.push(b'=');
-                write(&mut text, value);
-            }
-            None => text.extend(b" is missing"),
+    for record in table.chunks(RECORD_LENGTH) {
+        let name = record::name(record);
+        if let Some(value) = library::lookup(table, name) {
+            list(&mut text, name, &value);
         }
-        text.push(b'\n');
     }
-    print(&text)
+    text
+}
+
+/// One setting, or a comment where no quotes can hold the string.
+fn list(text: &mut Vec<u8>, name: &[u8], value: &Value) {
+    let (kind, string) = match value {
+        Value::Number(_) => return setting(text, name, value, b'"'),
+        Value::Text(string) => ("string", string),
+        Value::Wide(string) => ("wide string", string),
+    };
+    let holds = |byte| string.contains(&byte);
+    let line_end = holds(b'\r') || holds(b'\n');
+    if !line_end && !holds(b'"') {
+        setting(text, name, value, b'"');
+    } else if !line_end && !holds(b'\'') {
+        setting(text, name, value, b'\'');
+    } else {
+        text.extend([b"# ", name].concat());
+        let bytes = hexadecimal(string);
+        text.extend(format!(": a {kind} that no quotes can hold, in bytes: {bytes}\n").bytes());
+    }
+}
+
+fn setting(text: &mut Vec<u8>, name: &[u8], value: &Value, quote: u8) {
+    text.extend(name);
+    text.push(b'=');
+    write(text, value, quote);
+    text.push(b'\n');
 }

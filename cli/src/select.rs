@@ -1,72 +1,67 @@
-//! The word that selects: `select`.
+//! The subcommand that selects: `select`.
 
+use crate::annotate;
+use crate::files::{print, read};
 use crate::library::{self, Refused};
-use crate::outcome::{name, print, read, Stop};
+use crate::options::Request;
+use crate::outcome::{refused, Stop};
+use crate::shown::shown;
+use crate::table;
 
 /// The mark of a plain line that goes in.
 const KEPT: u8 = 1;
 
-/// What `select` is asked: options in any order, then the file.
-struct Request<'a> {
-    file: &'a [u8],
-    table_file: Option<&'a [u8]>,
-    marks: bool,
-}
-
-impl<'a> Request<'a> {
-    fn parse(words: &[&'a [u8]]) -> Option<Request<'a>> {
-        let (file, mut options) = words.split_last()?;
-        let mut request = Request {
-            file,
-            table_file: None,
-            marks: false,
-        };
-        while !options.is_empty() {
-            options = match options {
-                [b"-t", table, rest @ ..] if request.table_file.is_none() => {
-                    request.table_file = Some(table);
-                    rest
-                }
-                [b"--marks", rest @ ..] if !request.marks => {
-                    request.marks = true;
-                    rest
-                }
-                _ => return None,
-            };
-        }
-        // An option is no file, and standard input can be read only once.
-        let option = file.len() > 1 && file[0] == b'-';
-        let twice = *file == b"-" && request.table_file == Some(b"-");
-        (!option && !twice).then_some(request)
+pub fn select(request: &Request) -> Result<(), Stop> {
+    if request.has("--annotate") && request.has("--marks") {
+        return Err(Stop::Usage(
+            "--annotate and --marks exclude each other".into(),
+        ));
     }
-
-    /// Says what was refused, the table or the file, and in which line.
-    fn refused(&self, Refused { number, line }: Refused) -> Stop {
-        let file = name(self.file);
-        let what = match (number, line, self.table_file) {
-            (1, _, Some(table)) => name(table),
-            (_, 0, _) => file,
-            _ => format!("{file}:{line}"),
-        };
-        Stop::Refused(what, number)
+    let table = table::of(request)?;
+    let file = read(request.operand())?;
+    let marks =
+        library::select(&file, &table).map_err(|found| stop(request.operand(), &file, found))?;
+    let lines = lines(&file).zip(marks);
+    if request.has("--marks") {
+        print(
+            lines
+                .map(|(_, mark)| format!("{mark}\n"))
+                .collect::<String>()
+                .as_bytes(),
+        )
+    } else if request.has("--annotate") {
+        print(&annotate::view(
+            lines.map(|(line, mark)| (without_end(line), mark)),
+        ))
+    } else {
+        let kept: Vec<&[u8]> = lines
+            .filter(|(_, mark)| *mark == KEPT)
+            .map(|(line, _)| line)
+            .collect();
+        print(&kept.concat())
     }
 }
 
-pub fn select(words: &[&[u8]]) -> Result<(), Stop> {
-    let request = Request::parse(words).ok_or(Stop::Usage)?;
-    let table = request.table_file.map_or(Ok(Vec::new()), read)?;
-    let file = read(request.file)?;
-    let marks = library::select(&file, &table).map_err(|refused| request.refused(refused))?;
-    if request.marks {
-        let digits: Vec<String> = marks.iter().map(|mark| format!("{mark}\n")).collect();
-        return print(digits.concat().as_bytes());
+/// The lines of a file, each with its own end.
+fn lines(file: &[u8]) -> impl Iterator<Item = &[u8]> {
+    file.split_inclusive(|&byte| byte == b'\n')
+}
+
+/// A line's text. A CR is part of the line's end only right before an LF.
+fn without_end(line: &[u8]) -> &[u8] {
+    match line {
+        [text @ .., b'\r', b'\n'] | [text @ .., b'\n'] => text,
+        _ => line,
     }
-    // Each line with its own end, as it stands in the file.
-    let lines = file.split_inclusive(|&byte| byte == b'\n');
-    let kept: Vec<&[u8]> = lines
-        .zip(&marks)
-        .filter(|(_, mark)| **mark == KEPT)
-        .map(|(line, _)| line)
-        .collect();
-    print(&kept.concat())
+}
+
+/// Says what was refused, and shows the line if it is one.
+fn stop(name: &[u8], file: &[u8], Refused { number, line }: Refused) -> Stop {
+    if line == 0 {
+        return refused(name, number);
+    }
+    let text = lines(file)
+        .nth(line as usize - 1)
+        .map(|line| without_end(line).to_vec());
+    Stop::Refused(format!("{}:{line}", shown(name)), number, text)
 }

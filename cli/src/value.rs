@@ -1,85 +1,53 @@
-//! The words that evaluate: `eval` and `field`.
+//! The subcommands that evaluate: `eval` and `field`.
 
+use crate::files::print;
 use crate::library::{self, Value};
-use crate::outcome::{name, print, read, Stop};
-use crate::words;
+use crate::options::Request;
+use crate::outcome::{refused, Stop};
+use crate::shown::shown;
+use crate::{table, words};
 
-/// What `eval` and `field` are asked: options in any order, then the expression.
-struct Request<'a> {
-    expression: &'a [u8],
-    table_file: Option<&'a [u8]>,
-    datum: Option<u8>,
-}
-
-impl<'a> Request<'a> {
-    fn parse(words: &[&'a [u8]]) -> Option<Request<'a>> {
-        let (expression, options) = words.split_last()?;
-        let mut request = Request {
-            expression,
-            table_file: None,
-            datum: None,
-        };
-        for option in options.chunks(2) {
-            match option {
-                [b"-t", file] if request.table_file.is_none() => request.table_file = Some(file),
-                [b"--datum", name] if request.datum.is_none() => {
-                    request.datum = Some(words::datum(name)?)
-                }
-                _ => return None,
-            }
-        }
-        // An option without its value is no expression.
-        (!matches!(*expression, b"-t" | b"--datum")).then_some(request)
-    }
-
-    /// The table; an empty one if no file was named.
-    fn table(&self) -> Result<Vec<u8>, Stop> {
-        self.table_file.map_or(Ok(Vec::new()), read)
-    }
-
-    /// Says what was refused: the table, the expression or the field.
-    fn refused(&self, number: u8) -> Stop {
-        let what = match (number, self.table_file) {
-            (1, Some(file)) => name(file),
-            (23.., _) => "field".into(),
-            _ => "expression".into(),
-        };
-        Stop::Refused(what, number)
-    }
-}
-
-pub fn eval(words: &[&[u8]]) -> Result<(), Stop> {
-    let request = Request::parse(words).ok_or(Stop::Usage)?;
-    if request.datum.is_some() {
-        return Err(Stop::Usage);
-    }
-    let table = request.table()?;
-    let value =
-        library::evaluate(request.expression, &table).map_err(|number| request.refused(number))?;
+pub fn eval(request: &Request) -> Result<(), Stop> {
+    let table = table::of(request)?;
+    let value = library::evaluate(request.operand(), &table)
+        .map_err(|number| refused(b"expression", number))?;
     let mut text = Vec::new();
-    write(&mut text, value);
+    write(&mut text, &value, b'"');
     text.push(b'\n');
     print(&text)
 }
 
-pub fn field(words: &[&[u8]]) -> Result<(), Stop> {
-    let request = Request::parse(words).ok_or(Stop::Usage)?;
-    let datum = request.datum.ok_or(Stop::Usage)?;
-    let table = request.table()?;
-    let bytes = library::field(request.expression, &table, datum)
-        .map_err(|number| request.refused(number))?;
-    let digits: Vec<String> = bytes.iter().map(|byte| format!("{byte:02x}")).collect();
-    print((digits.join(" ") + "\n").as_bytes())
+pub fn field(request: &Request) -> Result<(), Stop> {
+    let datum = datum(request).map_err(Stop::Usage)?;
+    let table = table::of(request)?;
+    let bytes =
+        library::field(request.operand(), &table, datum).map_err(|number| match number {
+            23.. => refused(b"field", number),
+            _ => refused(b"expression", number),
+        })?;
+    print((hexadecimal(&bytes) + "\n").as_bytes())
 }
 
-/// A number in decimal, a string in double quotes, a wide one with `L` before them.
-pub fn write(text: &mut Vec<u8>, value: Value) {
+fn datum(request: &Request) -> Result<u8, String> {
+    let name = request.one("--datum").ok_or("no --datum TYPE")?;
+    words::datum(name).ok_or_else(|| format!("unknown datum type {}", shown(name)))
+}
+
+/// Bytes as pairs of digits.
+pub fn hexadecimal(bytes: &[u8]) -> String {
+    let digits: Vec<String> = bytes.iter().map(|byte| format!("{byte:02x}")).collect();
+    digits.join(" ")
+}
+
+/// A number in decimal, a string in quotes, a wide one with `L` before them.
+pub fn write(text: &mut Vec<u8>, value: &Value, quote: u8) {
     let (start, string) = match value {
         Value::Number(number) => return text.extend(number.to_string().bytes()),
-        Value::Text(string) => ("\"", string),
-        Value::Wide(string) => ("L\"", string),
+        Value::Text(string) => ("", string),
+        Value::Wide(string) => ("L", string),
     };
     text.extend(start.bytes());
-    text.extend(string);
-    text.push(b'"');
+    text.push(quote);
+    text.extend(*string);
+    text.push(quote);
 }

@@ -1,4 +1,4 @@
-/* The header and the static library fit together: one use of each call from C. */
+/* The header and the static library fit together: one use of each call from C, and the header's own function. */
 #include "korzhinay.h"
 #include <stdio.h>
 #include <string.h>
@@ -126,6 +126,31 @@ static void check_selection(const uint8_t *table, size_t table_len)
     check("no file, no marks", korzhinay_select(NULL, 0, NULL, 0, NULL, 0, out) == 0 && shows(out, 0, 0, 0));
 }
 
+static int means(uint8_t number, const char *meaning)
+{
+    return strcmp(korzhinay_meaning(number), meaning) == 0;
+}
+
+/* Two numbers with one meaning would hide which refusal it was. */
+static int differ(uint8_t first, uint8_t last)
+{
+    for (uint8_t i = first; i < last; i++)
+        for (uint8_t j = i + 1; j <= last; j++)
+            if (means(i, korzhinay_meaning(j)))
+                return 0;
+    return 1;
+}
+
+static void check_meanings(void)
+{
+    check("the first refusal", means(1, "the table of settings is malformed"));
+    check("one of an expression", means(12, "zero divisor"));
+    check("the last refusal", means(26, "the buffer is shorter than the field"));
+    check("no refusal", means(0, "no refusal"));
+    check("no number of a refusal", means(27, "unknown refusal") && means(255, "unknown refusal"));
+    check("a meaning for each number", differ(0, 27));
+}
+
 int main(void)
 {
     uint8_t settings[256] = "NAME";
@@ -166,6 +191,7 @@ int main(void)
     check_evaluation(settings, sizeof settings);
     check_field(settings, sizeof settings);
     check_selection(settings, sizeof settings);
+    check_meanings();
 
     printf("%d passed, %d failed\n", passed, failed);
     return failed != 0;
