@@ -1,16 +1,18 @@
 # make          the static and the shared library and the command
 # make run      the main job on an example
 # make test     the gate: proofs, must-fail edits, tests (what .ci/run runs)
-# make bench    speed beside the independent Rust implementation
+# make bench    speed beside the independent Rust implementation, and beside unifdef and cpp where they are installed
+# make corpus   what is said of every description file in the folder DIR, under the file SETTINGS if there is one
 # make fuzz     differential tests for SECONDS seconds (default 60)
 # make clean    removes everything that was made
 
 SECONDS ?= 60
+DIR ?= tests/corpus/files
 LIB := target/staticlib/libkorzhinay.a
 SOURCES := crates.txt $(shell find crates -type f)
 CARGO := CARGO_TARGET_DIR=$(CURDIR)/target/cargo KORZHINAY_LIB_DIR=$(CURDIR)/target/staticlib cargo
 
-.PHONY: all run test bench fuzz clean
+.PHONY: all run test bench corpus fuzz clean
 
 all: target/libkorzhinay.so target/korzhinay
 
@@ -31,8 +33,11 @@ run: all
 test:
 	.ci/run
 
-bench: $(LIB)
-	cd bench && $(CARGO) run --offline --release --quiet
+bench: $(LIB) target/korzhinay
+	cd bench && $(CARGO) run --offline --release --quiet -- $(CURDIR)/target/korzhinay
+
+corpus: target/korzhinay
+	python3 tests/corpus/run.py "$(DIR)" $(if $(SETTINGS),-s "$(SETTINGS)")
 
 fuzz: $(LIB)
 	cd tests/differential && $(CARGO) run --offline --release --quiet -- --seed $$(date +%s) --seconds $(SECONDS)
