@@ -2,16 +2,18 @@
 # make run        the main job on an example
 # make test       the gate: proofs, must-fail edits, tests (what .ci/run runs)
 # make documents  runs every example of the manual and the README
-# make bench      speed beside the independent Rust implementation
+# make corpus     what is said of every description file in the folder DIR, under the file SETTINGS if there is one
+# make bench      speed beside the independent Rust implementation, and beside unifdef and cpp where they are installed
 # make fuzz       differential tests for SECONDS seconds (default 60)
 # make clean      removes everything that was made
 
 SECONDS ?= 60
+DIR ?= tests/corpus/files
 LIB := target/staticlib/libkorzhinay.a
 SOURCES := crates.txt $(shell find crates -type f)
 CARGO := CARGO_TARGET_DIR=$(CURDIR)/target/cargo KORZHINAY_LIB_DIR=$(CURDIR)/target/staticlib cargo
 
-.PHONY: all run test documents bench fuzz clean
+.PHONY: all run test documents corpus bench fuzz clean
 
 all: target/libkorzhinay.so target/korzhinay
 
@@ -35,8 +37,11 @@ test:
 documents: all
 	python3 tests/documents/run.py
 
-bench: $(LIB)
-	cd bench && $(CARGO) run --offline --release --quiet
+corpus: target/korzhinay
+	python3 tests/corpus/run.py "$(DIR)" $(if $(SETTINGS),-s "$(SETTINGS)")
+
+bench: $(LIB) target/korzhinay
+	cd bench && $(CARGO) run --offline --release --quiet -- $(CURDIR)/target/korzhinay
 
 fuzz: $(LIB)
 	cd tests/differential && $(CARGO) run --offline --release --quiet -- --seed $$(date +%s) --seconds $(SECONDS)

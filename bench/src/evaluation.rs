@@ -9,6 +9,9 @@ use crate::timing::{compare, compare_in, ROUNDS};
 /// Calls of one expression in a round, so that the clock's own time does not count.
 const CALLS: usize = 1_000;
 
+/// Rounds of what takes long.
+const LONG_ROUNDS: usize = 5;
+
 /// All ten operators are applied where X is 1.
 const TEN: &str = "($(X) + 2) * 3 - 1 << 2 >= 32 AND $(X) < 9 ? 6 & 3 ^ 1 : 4";
 
@@ -27,22 +30,35 @@ pub fn time() {
         );
     }
 
-    let table = settings::table();
-    let small: Vec<String> = (0..10_000)
+    let small = small();
+    time_small("a table of 1 record", ROUNDS, &small, &one);
+    time_small(
+        "a table of 500 records",
+        LONG_ROUNDS,
+        &small,
+        &settings::table(),
+    );
+}
+
+fn small() -> Vec<String> {
+    (0..10_000)
         .map(|i| match i % 4 {
             0 => format!("$(SETTING_{:04}) == TRUE", i % 500),
             1 => format!("({i} + 0x{i:X}) * 3 << 2 >= {} AND NOT FALSE", i * 7),
             2 => format!("$(SETTING_{:04}) GE 48 OR $(ABSENT) LE 5", i % 500),
             _ => format!("(1 | 2) == {i} ? L'wide' : L'wider' # with a comment"),
         })
-        .collect();
-    small.iter().for_each(|text| check(text, &table));
+        .collect()
+}
+
+fn time_small(of: &str, rounds: usize, small: &[String], table: &[u8]) {
+    small.iter().for_each(|text| check(text, table));
     compare_in(
-        ROUNDS / 4,
-        "a small expression (10,000, 5 rounds), a table of 500 records",
+        rounds,
+        &format!("a small expression (10,000, {rounds} rounds), {of}"),
         small.len(),
-        || small.iter().for_each(|text| proved(text, &table)),
-        || small.iter().for_each(|text| oracle(text, &table)),
+        || small.iter().for_each(|text| proved(text, table)),
+        || small.iter().for_each(|text| oracle(text, table)),
     );
 }
 

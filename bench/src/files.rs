@@ -1,12 +1,36 @@
-//! The description file that is timed: groups of 16 lines, 4 of them directives, with plain lines as long as its size asks for.
+//! The description file that is timed, and the same lines in C's syntax for tools that read that: groups of 16 lines, 4 of them
+//! directives, with plain lines as long as its size asks for.
 
 /// Lines of a group, and those of them that are directives, each with as many plain lines after it.
 const GROUP: usize = 16;
 const DIRECTIVES: usize = 4;
 const PLAIN: usize = GROUP - DIRECTIVES;
 
-/// A file of this many lines, a multiple of 16, and this many bytes.
-pub fn file(lines: usize, bytes: usize) -> Vec<u8> {
+/// Lines and bytes of the larger file; the smaller one has half of both.
+const LINES: usize = 4_000;
+const BYTES: usize = 65_536;
+
+/// The first so many names are set, and none past the other number is asked for.
+pub const SET: usize = 50;
+pub const NAMED: usize = 60;
+
+/// The file, and one half as long.
+pub fn both() -> [String; 2] {
+    [1, 2].map(|part| file(LINES / part, BYTES / part))
+}
+
+/// What a file is like.
+pub fn described(file: &str) -> String {
+    let directives = file.lines().filter(|line| line.starts_with('!')).count();
+    format!(
+        "{} KiB, {} lines, {directives} directives, {SET} settings",
+        file.len() / 1_024,
+        file.lines().count()
+    )
+}
+
+/// A file of this many lines, a multiple of 16, and this many bytes. Each plain line has its number, so that no two are alike.
+fn file(lines: usize, bytes: usize) -> String {
     let groups = lines / GROUP;
     let mut text = String::new();
     for group in 0..groups {
@@ -19,28 +43,35 @@ pub fn file(lines: usize, bytes: usize) -> Vec<u8> {
             let first = index * PLAIN / DIRECTIVES;
             for line in first..first + PLAIN / DIRECTIVES {
                 let end = left * (line + 1) / PLAIN - left * line / PLAIN;
-                text += &"-".repeat(end - 1);
-                text.push('\n');
+                let number = group * PLAIN + line;
+                text += &format!("{number:-<width$}\n", width = end - 1);
             }
         }
     }
-    text.into_bytes()
+    text
 }
 
-/// Some of them taken, some not; a few names are missing from a table of 50.
+/// Some of them taken, some not; a few names are not set.
 fn directives_of(group: usize) -> [String; DIRECTIVES] {
-    let (one, other) = (group % 50, group * 7 % 50);
+    let (one, other) = (group % SET, group * 7 % SET);
     let open = match group % 5 {
-        4 => format!("!ifdef SETTING_{:04}", group % 60),
+        4 => format!("!ifdef SETTING_{:04}", group % NAMED),
         _ => format!("!if $(SETTING_{one:04}) == {other}"),
     };
     let next = format!("!elseif $(SETTING_{other:04}) < {one}");
     [open, next, "!else".to_string(), "!endif".to_string()]
 }
 
-/// How many lines of a file are directives.
-pub fn directives(file: &[u8]) -> usize {
-    file.split(|&byte| byte == b'\n')
-        .filter(|line| line.starts_with(b"!"))
-        .count()
+/// The same lines in C's syntax, with the same outcome: plain lines as they are, and names without `$()`.
+pub fn in_c(file: &str) -> String {
+    let line_in_c = |line: &str| match line.strip_prefix('!') {
+        None => format!("{line}\n"),
+        Some(directive) => {
+            let directive = directive
+                .replace("elseif", "elif")
+                .replace(['$', '(', ')'], "");
+            format!("#{directive}\n")
+        }
+    };
+    file.lines().map(line_in_c).collect()
 }

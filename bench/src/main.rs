@@ -1,5 +1,5 @@
-//! Times the proved library beside the independent Rust implementation, on the same inputs: medians of 21 rounds, or of as many as
-//! a line says; release builds.
+//! Times the proved library beside the independent Rust implementation, and the command whose path is given beside other tools, on
+//! the same inputs; release builds.
 
 // the command's declarations; not every call is timed
 #[allow(dead_code)]
@@ -7,6 +7,8 @@
 mod c;
 mod evaluation;
 mod files;
+mod folder;
+mod processes;
 mod selection;
 mod settings;
 mod tables;
@@ -14,11 +16,19 @@ mod timing;
 mod tokens;
 
 fn main() {
+    let command = std::env::args().nth(1).expect("the path of the command");
+    println!(
+        "Medians of {} rounds, or of as many as a line says. What is compared runs in turns.",
+        timing::ROUNDS
+    );
     tokens::time();
     tables::time();
     evaluation::time();
     selection::time();
+    println!("Each evaluation, each lookup and each selection checks its whole table, on both sides. No lent array is cleared between");
+    println!("calls. The library clears its own token arrays in each evaluation, the other side makes vectors; both count.");
+    processes::time(&command);
     println!(
-        "Each evaluation, each lookup and each selection checks its whole table, on both sides."
+        "Whole processes count from start to end; what they write goes into a pipe that is read."
     );
 }

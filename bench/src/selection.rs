@@ -1,4 +1,5 @@
-//! Times the selection of the lines of a file, and of one half as long: the cost has to be in proportion.
+//! Times the selection of the lines of a file, and of one half as long: the cost has to be in proportion. Each side has
+//! marks of its own, which every call writes over; they are not cleared between calls.
 
 use std::hint::black_box;
 use std::time::Duration;
@@ -6,28 +7,14 @@ use std::time::Duration;
 use crate::c;
 use crate::files;
 use crate::settings;
-use crate::timing::compare;
-
-/// Lines and bytes of the larger file; the smaller one has half of both.
-const LINES: usize = 4_000;
-const BYTES: usize = 65_536;
-
-/// Records of the table.
-const RECORDS: usize = 50;
+use crate::timing::{compare, ratio};
 
 pub fn time() {
-    let table = &settings::table()[..RECORDS * 128];
-    let [whole, half] = [1, 2].map(|part| {
-        let file = files::file(LINES / part, BYTES / part);
-        let what = format!(
-            "selection: {} KiB, {} lines, {} directives, {RECORDS} records",
-            file.len() / 1_024,
-            LINES / part,
-            files::directives(&file)
-        );
-        time_one(&what, &file, table)
+    let table = &settings::table()[..files::SET * 128];
+    let [whole, half] = files::both().map(|file| {
+        let what = format!("selection: {}", files::described(&file));
+        time_one(&what, file.as_bytes(), table)
     });
-    let ratio = |whole: Duration, half: Duration| whole.as_secs_f64() / half.as_secs_f64();
     println!(
         "{:<62} proved {:>9.2}, oracle {:>12.2}",
         "the whole file's time by the half's",

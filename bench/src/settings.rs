@@ -1,7 +1,11 @@
-//! The table of settings that is timed: 500 numbers.
+//! The settings that are timed: 500 numbers, as a table, and some of them as texts that commands read.
 
 pub fn names() -> Vec<String> {
-    (0..500).map(|i| format!("SETTING_{i:04}")).collect()
+    (0..500).map(name).collect()
+}
+
+fn name(index: usize) -> String {
+    format!("SETTING_{index:04}")
 }
 
 pub fn table() -> Vec<u8> {
@@ -18,4 +22,27 @@ pub fn record(name: &str, value: u64) -> [u8; 128] {
     record[65] = 8;
     record[72..80].copy_from_slice(&value.to_le_bytes());
     record
+}
+
+/// The first settings, as the command reads them.
+pub fn text(set: usize) -> String {
+    (0..set).map(|i| format!("{}={i}\n", name(i))).collect()
+}
+
+/// The first settings, as C reads them; the names after these are said to be missing, since unifdef leaves a name undecided otherwise.
+pub fn in_c(set: usize, named: usize) -> String {
+    let line = |i| match i < set {
+        true => format!("#define {} {i}\n", name(i)),
+        false => format!("#undef {}\n", name(i)),
+    };
+    (0..named).map(line).collect()
+}
+
+/// The same as options.
+pub fn options(set: usize, named: usize) -> Vec<String> {
+    let option = |i| match i < set {
+        true => format!("-D{}={i}", name(i)),
+        false => format!("-U{}", name(i)),
+    };
+    (0..named).map(option).collect()
 }

@@ -1,20 +1,27 @@
-//! Two pieces of work, timed one after the other.
+//! Pieces of work, timed in turns, so that whatever else the machine does falls on all of them alike.
 
 use std::time::{Duration, Instant};
 
-pub const ROUNDS: usize = 21;
+pub const ROUNDS: usize = 51;
 
-fn median(rounds: usize, mut work: impl FnMut()) -> Duration {
-    work();
-    let mut times: Vec<Duration> = (0..rounds)
-        .map(|_| {
+/// The median time of each piece of work; a first turn, which is not counted, fills the caches.
+pub fn medians(rounds: usize, works: &mut [&mut dyn FnMut()]) -> Vec<Duration> {
+    works.iter_mut().for_each(|work| work());
+    let mut times = vec![Vec::with_capacity(rounds); works.len()];
+    for _ in 0..rounds {
+        for (work, times) in works.iter_mut().zip(&mut times) {
             let start = Instant::now();
             work();
-            start.elapsed()
+            times.push(start.elapsed());
+        }
+    }
+    times
+        .iter_mut()
+        .map(|times| {
+            times.sort();
+            times[rounds / 2]
         })
-        .collect();
-    times.sort();
-    times[rounds / 2]
+        .collect()
 }
 
 /// Times the same work on both sides, prints the time of one of its `units` and gives that of the whole work.
@@ -32,16 +39,21 @@ pub fn compare_in(
     rounds: usize,
     what: &str,
     units: usize,
-    proved: impl FnMut(),
-    oracle: impl FnMut(),
+    mut proved: impl FnMut(),
+    mut oracle: impl FnMut(),
 ) -> (Duration, Duration) {
-    let (proved, oracle) = (median(rounds, proved), median(rounds, oracle));
+    let times = medians(rounds, &mut [&mut proved, &mut oracle]);
+    let (proved, oracle) = (times[0], times[1]);
     let each = |time: Duration| time.as_nanos() as f64 / units as f64;
     println!(
         "{what:<62} proved {:>9.1} ns, oracle {:>9.1} ns, ratio {:.2}",
         each(proved),
         each(oracle),
-        proved.as_secs_f64() / oracle.as_secs_f64()
+        ratio(proved, oracle)
     );
     (proved, oracle)
+}
+
+pub fn ratio(one: Duration, other: Duration) -> f64 {
+    one.as_secs_f64() / other.as_secs_f64()
 }

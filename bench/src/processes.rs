@@ -1,0 +1,140 @@
+//! Times whole processes over one file: the command, and unifdef and cpp over the same lines in C's syntax, where these are installed.
+//! A process is counted from its start to its end, with the reading of what it writes into a pipe.
+
+use std::io::ErrorKind;
+use std::path::Path;
+use std::process::{Command, Stdio};
+
+use crate::files;
+use crate::folder::Folder;
+use crate::settings;
+use crate::timing::{medians, ratio, ROUNDS};
+
+/// What of a tool's output has to be as the command's is.
+#[derive(Clone, Copy)]
+enum Same {
+    Bytes,
+    /// cpp leaves out and adds blank lines as it likes; the files have none.
+    LinesNotBlank,
+    Nothing,
+}
+
+/// A program and its arguments, told in a few words.
+struct Tool {
+    what: &'static str,
+    program: String,
+    arguments: Vec<String>,
+    same: Same,
+}
+
+pub fn time(command: &str) {
+    let folder = Folder::new();
+    folder.write("settings.txt", settings::text(files::SET).as_bytes());
+    folder.write("settings.bin", &settings::table()[..files::SET * 128]);
+    let definitions = settings::in_c(files::SET, files::NAMED);
+    folder.write("settings.h", definitions.as_bytes());
+    let (installed, missing): (Vec<Tool>, Vec<Tool>) =
+        tools(command).into_iter().partition(Tool::is_installed);
+    for file in files::both() {
+        folder.write("file.dsc", file.as_bytes());
+        folder.write("file.c", files::in_c(&file).as_bytes());
+        println!("whole processes: {}", files::described(&file));
+        check(&installed, folder.path());
+        time_all(&installed, folder.path());
+    }
+    for tool in missing {
+        println!("  {:<30} not installed", tool.what);
+    }
+}
+
+/// The command first. Every name is decided for unifdef, which would leave a directive in its place otherwise; with -x2 it ends with 0
+/// where it changed something.
+#[rustfmt::skip]
+fn tools(command: &str) -> Vec<Tool> {
+    let options = settings::options(files::SET, files::NAMED).join(" ");
+    [
+        ("korzhinay select -s SETTINGS", command, "select -s settings.txt file.dsc", Same::Bytes),
+        ("korzhinay select -t TABLE", command, "select -t settings.bin file.dsc", Same::Bytes),
+        ("unifdef -f DEFINITIONS", "unifdef", "-x2 -f settings.h file.c", Same::Bytes),
+        ("unifdef -D.. -U..", "unifdef", &format!("-x2 {options} file.c"), Same::Bytes),
+        ("cpp -P -include DEFINITIONS", "cpp", "-P -include settings.h file.c", Same::LinesNotBlank),
+        ("true, which does nothing", "true", "", Same::Nothing),
+    ]
+    .map(|(what, program, arguments, same)| Tool {
+        what,
+        program: program.to_string(),
+        arguments: arguments.split_whitespace().map(str::to_string).collect(),
+        same,
+    })
+    .into()
+}
+
+impl Tool {
+    fn is_installed(&self) -> bool {
+        let outcome = Command::new(&self.program).stdin(Stdio::null()).output();
+        !outcome.is_err_and(|error| error.kind() == ErrorKind::NotFound)
+    }
+
+    /// What it writes.
+    fn run(&self, folder: &Path) -> Vec<u8> {
+        let output = Command::new(&self.program)
+            .args(&self.arguments)
+            .current_dir(folder)
+            // cargo sets it for what it runs, and every search for a shared library would go through its folders first
+            .env_remove("LD_LIBRARY_PATH")
+            .stdin(Stdio::null())
+            .stderr(Stdio::inherit())
+            .output()
+            .unwrap_or_else(|error| panic!("{}: {error}", self.what));
+        assert!(output.status.success(), "{}: {}", self.what, output.status);
+        output.stdout
+    }
+}
+
+impl Same {
+    fn holds(self, kept: &[u8], other: &[u8]) -> bool {
+        match self {
+            Same::Bytes => other == kept,
+            Same::LinesNotBlank => lines_not_blank(other).eq(lines_not_blank(kept)),
+            Same::Nothing => true,
+        }
+    }
+
+    fn words(self) -> &'static str {
+        match self {
+            Same::Bytes => "; writes the same bytes",
+            Same::LinesNotBlank => "; writes the same lines, blank ones left out",
+            Same::Nothing => "",
+        }
+    }
+}
+
+fn lines_not_blank(text: &[u8]) -> impl Iterator<Item = &[u8]> {
+    text.split(|&byte| byte == b'\n')
+        .filter(|line| !line.is_empty())
+}
+
+/// What is timed keeps the same lines, and some.
+fn check(tools: &[Tool], folder: &Path) {
+    let kept = tools[0].run(folder);
+    assert!(!kept.is_empty());
+    for tool in tools {
+        let same = tool.same.holds(&kept, &tool.run(folder));
+        assert!(same, "{} keeps other lines", tool.what);
+    }
+}
+
+fn time_all(tools: &[Tool], folder: &Path) {
+    let mut works: Vec<_> = tools.iter().map(|tool| || drop(tool.run(folder))).collect();
+    let mut works: Vec<&mut dyn FnMut()> = works.iter_mut().map(|work| work as _).collect();
+    let times = medians(ROUNDS, &mut works);
+    for (tool, &time) in tools.iter().zip(&times) {
+        println!(
+            "  {:<30} {:>8.1} µs, select -s takes {:.2} of it{}",
+            tool.what,
+            time.as_secs_f64() * 1e6,
+            ratio(times[0], time),
+            tool.same.words()
+        );
+    }
+}

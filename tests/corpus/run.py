@@ -1,0 +1,97 @@
+"""Asks the command about every description file of a folder: run.py [--expected REPORT] FOLDER [OPTION].., the options being those of
+`korzhinay select`. Each file is accepted or refused, with the line and the meaning. A crash, a run without an end, any other exit status
+and an answer that has not one mark for each line are failures; so is, with --expected, a line that is not in that report as it stands.
+The last line says how many files passed and failed; a folder without any is a failure too."""
+import collections
+import os
+import re
+import subprocess
+import sys
+
+HERE = os.path.dirname(os.path.abspath(__file__))
+COMMAND = os.path.join(HERE, "..", "..", "target", "korzhinay")
+ENDINGS = (".dsc", ".fdf", ".dsc.inc", ".fdf.inc")
+# the longest accepted file takes a few milliseconds
+SECONDS = 10
+# the first line of what is said of a refusal; the line at fault may follow
+REFUSAL = re.compile(r".*?(?::(\d+))?: refused \((\d+)\): (.*)\n")
+
+
+def description_files(folder):
+    """The files, by their paths from the folder on."""
+    paths = [os.path.join(place, name) for place, _, names in os.walk(folder) for name in names]
+    return sorted(os.path.relpath(path, folder) for path in paths if path.lower().endswith(ENDINGS))
+
+
+def accepted(content, marks):
+    """What is said of a file that is accepted; None where the marks are not those of its lines."""
+    lines = content.count(b"\n") + (not content.endswith(b"\n") and content != b"")
+    if not re.fullmatch(rb"([0-5]\n){%d}" % lines, marks):
+        return None
+    return "accepted, %d lines kept of %d" % (marks.count(b"1"), lines)
+
+
+def refused(message):
+    """What is said of a file that is refused; None where the message is not that of a refusal."""
+    match = REFUSAL.match(message)
+    if not match:
+        return None
+    line, number, meaning = match.groups()
+    return "refused (%s)%s: %s" % (number, " at line " + line if line else "", meaning)
+
+
+def answer(path, options):
+    """What the command says of a file, and whether that is an answer at all."""
+    try:
+        run = subprocess.run([COMMAND, "select", "--marks", *options, path], capture_output=True, timeout=SECONDS)
+    except subprocess.TimeoutExpired:
+        return "FAILED, no end after %d seconds" % SECONDS, False
+    message = run.stderr.decode(errors="backslashreplace")
+    said = None
+    if run.returncode == 0 and not message:
+        with open(path, "rb") as file:
+            said = accepted(file.read(), run.stdout)
+    elif run.returncode == 1 and not run.stdout:
+        said = refused(message)
+    return said or "FAILED, exit status %d: %s" % (run.returncode, message.strip()), said is not None
+
+
+def summary(report):
+    """How many files met with which answer."""
+    counts = collections.Counter(re.match(r"accepted|refused \(\d+\)|", said).group() or "failed" for said in report.values())
+    in_order = sorted(counts, key=lambda what: (len(what), what))
+    return ", ".join("%d %s" % (counts[what], what) for what in in_order)
+
+
+def unexpected(expected, report):
+    """The files of which something else was said than the expected report says."""
+    with open(expected, encoding="utf-8") as file:
+        wanted = dict(line.rstrip("\n").split(": ", 1) for line in file)
+    return {path for path in wanted.keys() | report.keys() if wanted.get(path) != report.get(path)}
+
+
+def main(arguments):
+    expected = None
+    if arguments[:1] == ["--expected"]:
+        expected, arguments = arguments[1], arguments[2:]
+    if not arguments:
+        sys.exit(__doc__)
+    folder, options = arguments[0], arguments[1:]
+    report, wrong = {}, set()
+    for path in description_files(folder):
+        report[path], good = answer(os.path.join(folder, path), options)
+        print("%s: %s" % (path, report[path]))
+        if not good:
+            wrong.add(path)
+    if expected:
+        for path in sorted(unexpected(expected, report)):
+            wrong.add(path)
+            print("FAILED %s: not what the expected report says" % path)
+    print("%d files: %s" % (len(report), summary(report)))
+    print("%d passed, %d failed" % (len(report.keys() - wrong), len(wrong)))
+    return 1 if wrong or not report else 0
+
+
+# a file may have any bytes in its name
+sys.stdout.reconfigure(errors="backslashreplace")
+sys.exit(main(sys.argv[1:]))
