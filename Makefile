@@ -1,5 +1,5 @@
 # make            the static and the shared library and the command
-# make run        the main job on an example
+# make run        the main job on an example, written wrongly and rightly
 # make test       the gate: proofs, must-fail edits, tests (what .ci/run runs)
 # make documents  runs every example of the manual and the README
 # make corpus     what is said of every description file in the folder DIR, under the file SETTINGS if there is one
@@ -29,6 +29,7 @@ target/korzhinay: $(LIB) $(wildcard cli/*.toml cli/*.rs cli/src/*.rs)
 	cp target/cargo/release/korzhinay $@
 
 run: all
+	target/korzhinay select -s examples/buoy.settings --annotate examples/window-wrong.dsc
 	target/korzhinay select -s examples/buoy.settings --annotate examples/window-right.dsc
 
 test:

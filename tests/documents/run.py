@@ -1,5 +1,5 @@
-"""Runs every example of the manual and the README, and holds the manual's tables against the header and the command. The last line says
-how many passed and how many failed."""
+"""Runs every example of the manual and the README, holds the manual's tables against the header and the command, and what the page of
+promises counts against the crates. The last line says how many passed and how many failed."""
 import collections
 import os
 import re
@@ -8,6 +8,7 @@ import subprocess
 import sys
 import tempfile
 
+from promises import PROMISES, facts
 from sessions import ROOT, examples, read, run
 
 MANUAL, README = "docs/LANGUAGE.md", "README.md"
@@ -134,5 +135,7 @@ check_sections()
 check_tokens()
 check_precedence()
 check_refusals(printed["Refusals"])
+for what, got, wanted in facts():
+    check("%s: %s" % (PROMISES, what), got, wanted)
 print("%d passed, %d failed" % (passed, failed))
 sys.exit(1 if failed else 0)

@@ -1,0 +1,22 @@
+"""What docs/PROMISES.md says that can be counted: the files to be read with their lengths, and the must-fail edits by name."""
+import glob
+import os
+import re
+
+from sessions import ROOT, read
+
+PROMISES = "docs/PROMISES.md"
+
+
+def facts():
+    """Each fact with what the page has and what is so."""
+    text = read(PROMISES)
+    listed = {path: int(lines) for path, lines in re.findall(r"^\| (crates/\S+) \| (\d+) \|", text, re.M)}
+    counted = {path: read(path).count("\n") for path in listed}
+    yield "lengths of the files to be read", listed, counted
+    yield "their sum", [int(number) for number in re.findall(r"Together (\d+) lines", text)], [sum(counted.values())]
+    edits = {os.path.basename(path)[: -len(".edit")] for path in glob.glob(os.path.join(ROOT, "crates/*/must-fail/*.edit"))}
+    yield "must-fail edits that the page does not name", sorted(edits - set(re.findall(r"`(?:[a-z]+/)?([a-z0-9_]+)`", text))), []
+    # In parentheses stand names of edits, and of nothing else that has two underscores.
+    named = {name for group in re.findall(r"\(([^()]*)\)", text) for name in re.findall(r"`(?:[a-z]+/)?([a-z0-9]+_[a-z0-9]+_[a-z0-9_]+)`", group)}
+    yield "edits that the page names and that are not there", sorted(named - edits), []
