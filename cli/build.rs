@@ -1,4 +1,4 @@
-//! Links the archive that lies in the folder named by KORZHINAY_LIB_DIR.
+//! Links the archive that lies in the folder named by KORZHINAY_LIB_DIR. The benchmark and the differential tests are built with this too.
 
 use std::env;
 use std::path::Path;

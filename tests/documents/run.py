@@ -11,6 +11,9 @@ import tempfile
 from promises import PROMISES, facts
 from sessions import ROOT, examples, read, run
 
+sys.path.insert(0, os.path.join(os.path.dirname(os.path.abspath(__file__)), ".."))
+from tally import check, end
+
 MANUAL, README = "docs/LANGUAGE.md", "README.md"
 LAST = 26
 # The command lends enough and knows no other datum types, so it never meets these.
@@ -25,18 +28,6 @@ int main(void)
         puts(korzhinay_meaning((uint8_t)number));
 }
 """
-
-passed = failed = 0
-
-
-def check(what, got, wanted):
-    global passed, failed
-    if got == wanted:
-        passed += 1
-    else:
-        failed += 1
-        print("FAILED %s\n  got    %r\n  wanted %r" % (what, got, wanted))
-
 
 def sections(document):
     return re.findall(r"^## (.*)$", read(document), re.M)
@@ -137,5 +128,4 @@ check_precedence()
 check_refusals(printed["Refusals"])
 for what, got, wanted in facts():
     check("%s: %s" % (PROMISES, what), got, wanted)
-print("%d passed, %d failed" % (passed, failed))
-sys.exit(1 if failed else 0)
+end()

@@ -1,4 +1,5 @@
 """Runs the vectors against the shared library. The last line says how many passed and how many failed."""
+import os
 import sys
 
 import evaluation
@@ -8,17 +9,8 @@ import selection
 import tables
 import tokens
 
-passed = failed = 0
-
-
-def check(what, got, wanted):
-    global passed, failed
-    if got == wanted:
-        passed += 1
-    else:
-        failed += 1
-        print("FAILED %s\n  got    %r\n  wanted %r" % (what[:200], got, wanted))
-
+sys.path.insert(0, os.path.join(os.path.dirname(os.path.abspath(__file__)), ".."))
+from tally import check, end
 
 for expression, refusal, read in tokens.VECTORS:
     check("tokens of %r" % expression, library.tokens(expression), (refusal, tokens.expected(read, expression)))
@@ -49,5 +41,4 @@ for file, table, room, (refusal, line, marks, count) in selection.VECTORS:
         answer = (0, (0, len(marks), count), marks + library.unmarked(room)[len(marks):])
     check(what, library.select(file, table, room), answer)
 
-print("%d passed, %d failed" % (passed, failed))
-sys.exit(1 if failed else 0)
+end()
