@@ -3,13 +3,15 @@
 use std::env;
 use std::io::{self, IsTerminal};
 
+use crate::shown::shown;
+
 /// The marks of lines that play no part: plain ones that are dropped, and directives that are not read.
 const IDLE: [u8; 2] = [0, 2];
 
 /// The gutter and the text of each line. The number has four places, since a file has at most 4,096 lines.
-pub fn view<'a>(lines: impl Iterator<Item = (&'a [u8], u8)>) -> Vec<u8> {
+pub fn view<'a>(lines: impl Iterator<Item = (&'a [u8], u8)>) -> String {
     let dims = dims();
-    let mut view = Vec::new();
+    let mut view = String::new();
     for (number, (text, mark)) in (1..).zip(lines) {
         let dimmed = dims && IDLE.contains(&mark);
         let (start, end) = if dimmed {
@@ -17,10 +19,8 @@ pub fn view<'a>(lines: impl Iterator<Item = (&'a [u8], u8)>) -> Vec<u8> {
         } else {
             ("", "")
         };
-        view.extend(format!("{start}{number:>4} {mark} | ").bytes());
-        view.extend(text);
-        view.extend(end.bytes());
-        view.push(b'\n');
+        // No line of the file can write over its own gutter.
+        view += &format!("{start}{number:>4} {mark} | {}{end}\n", shown(text));
     }
     view
 }

@@ -5,7 +5,7 @@ use crate::library::{self, Value};
 use crate::options::Request;
 use crate::outcome::{refused, Stop};
 use crate::record::{self, RECORD_LENGTH};
-use crate::value::{hexadecimal, write};
+use crate::value::{hexadecimal, quote_for, write};
 use crate::{table, words};
 
 pub fn tokens(request: &Request) -> Result<(), Stop> {
@@ -16,7 +16,7 @@ pub fn tokens(request: &Request) -> Result<(), Stop> {
         let code = words::code(token.code);
         text.extend(format!("{:>4} {:>4}  {code:<11}  ", token.start, token.len).bytes());
         text.extend(&expression[token.start..][..token.len]);
-        if token.code <= 1 {
+        if [library::NUMBER, library::TRUTH].contains(&token.code) {
             text.extend(format!("  = {}", token.value).bytes());
         }
         text.push(b'\n');
@@ -55,26 +55,25 @@ fn listing(table: &[u8]) -> Vec<u8> {
 /// One setting, or a comment where no quotes can hold the string.
 fn list(text: &mut Vec<u8>, name: &[u8], value: &Value) {
     let (kind, string) = match value {
-        Value::Number(_) => return setting(text, name, value, b'"'),
+        Value::Number(_) => return setting(text, name, value),
         Value::Text(string) => ("string", string),
         Value::Wide(string) => ("wide string", string),
     };
-    let holds = |byte| string.contains(&byte);
-    let line_end = holds(b'\r') || holds(b'\n');
-    if !line_end && !holds(b'"') {
-        setting(text, name, value, b'"');
-    } else if !line_end && !holds(b'\'') {
-        setting(text, name, value, b'\'');
-    } else {
+    if [b'\r', b'\n', quote_for(value)]
+        .iter()
+        .any(|byte| string.contains(byte))
+    {
         text.extend([b"# ", name].concat());
         let bytes = hexadecimal(string);
         text.extend(format!(": a {kind} that no quotes can hold, in bytes: {bytes}\n").bytes());
+    } else {
+        setting(text, name, value);
     }
 }
 
-fn setting(text: &mut Vec<u8>, name: &[u8], value: &Value, quote: u8) {
+fn setting(text: &mut Vec<u8>, name: &[u8], value: &Value) {
     text.extend(name);
     text.push(b'=');
-    write(text, value, quote);
+    write(text, value, quote_for(value));
     text.push(b'\n');
 }

@@ -29,6 +29,9 @@ fn literal(text: &[u8]) -> Result<Value<'_>, String> {
 fn word(text: &[u8]) -> Result<Value<'_>, String> {
     if let Some(at) = text.iter().position(|byte| !in_word(*byte)) {
         return Err(match text[at] {
+            b' ' | b'\t' if text.contains(&b'"') || text.contains(&b'\'') => {
+                "more than one word; a string has its quotes round all of it".into()
+            }
             b' ' | b'\t' => format!(
                 "more than one word; write \"{0}\", for a shell '\"{0}\"'",
                 shown(text)
@@ -74,7 +77,7 @@ fn hint_at_start(text: &[u8]) -> String {
     let all = shown(text);
     match text {
         [b'$', ..] => format!("{all}: macros are not replaced in a setting"),
-        [b'-', ..] => format!("{all}: no number is below 0"),
+        [b'-', b'0'..=b'9', ..] => format!("{all}: no number is below 0"),
         [b'0'..=b'9', ..] => {
             format!(
                 "{all} is no number: decimal without a 0 in front, or 0x and hexadecimal digits"

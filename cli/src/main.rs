@@ -16,6 +16,7 @@ mod select;
 mod setting;
 mod settings;
 mod shown;
+mod streams;
 mod subcommand;
 mod table;
 mod value;
@@ -46,10 +47,12 @@ fn main() -> ExitCode {
 }
 
 fn run(subcommand: &Subcommand, words: &[&[u8]]) -> Result<(), Stop> {
-    let request = Request::parse(words, subcommand).map_err(Stop::Usage)?;
-    if request.has("--help") {
+    // Who asks for help gets it, whatever else is wrong.
+    let mut options = words.iter().take_while(|word| **word != b"--");
+    if options.any(|word| matches!(*word, b"--help" | b"-h")) {
         return print(help::of(subcommand).as_bytes());
     }
+    let request = Request::parse(words, subcommand).map_err(Stop::Usage)?;
     (subcommand.run)(&request)
 }
 

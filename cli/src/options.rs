@@ -116,9 +116,6 @@ impl<'a> Request<'a> {
 
     /// The request, with `table TABLE` taken as `table -t TABLE`, if nothing is missing.
     fn checked(mut self, subcommand: &Subcommand) -> Result<Request<'a>, String> {
-        if self.has("--help") {
-            return Ok(self);
-        }
         match (subcommand.operand, self.operand) {
             (Operand::Table, Some(table)) => self.put_option("-t", table)?,
             (Operand::File | Operand::Expression, None) => {
@@ -156,9 +153,13 @@ impl<'a> Request<'a> {
     }
 }
 
-/// Whether a word is exactly an option, of whatever subcommand.
+/// Whether a word looks like an option: one of any subcommand, a setting attached to its -D, or a misspelled long one. As expressions
+/// these would be refused, and what is wrong is that the expression is missing.
 fn is_option(word: &[u8]) -> bool {
-    word == b"-h" || CHOICES.iter().any(|choice| choice.word.as_bytes() == word)
+    match word {
+        [b'-', b'D', _, ..] | [b'-', b'-', b'a'..=b'z', ..] => true,
+        _ => CHOICES.iter().any(|choice| choice.word.as_bytes() == word),
+    }
 }
 
 /// The option of a subcommand that a word gives, and the value if it is attached, as in -DNAME.
@@ -167,11 +168,7 @@ fn find<'a>(
     subcommand: &Subcommand,
 ) -> Option<(&'static Choice, Option<&'a [u8]>)> {
     let attached = word.strip_prefix(b"-D").filter(|value| !value.is_empty());
-    let option = match (word, attached) {
-        (_, Some(_)) => b"-D",
-        (b"-h", _) => b"--help".as_slice(),
-        _ => word,
-    };
+    let option = attached.map_or(word, |_| b"-D");
     let choice = subcommand
         .choices()
         .find(|choice| choice.word.as_bytes() == option)?;

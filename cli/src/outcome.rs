@@ -3,13 +3,13 @@
 use std::io::{self, Write};
 use std::process::ExitCode;
 
-use crate::shown::{shown, visible};
+use crate::shown::shown;
 use crate::subcommand::{self, Subcommand};
 use crate::words;
 
 pub enum Stop {
     /// What was refused, the number, and the text of the line if the refusal is of one.
-    Refused(String, u8, Option<Vec<u8>>),
+    Refused(String, u8, Option<String>),
     /// A file that cannot be read or written, or a setting that no record can hold.
     Failed(String),
     /// What is wrong with the command line.
@@ -23,24 +23,22 @@ impl Stop {
     pub fn report(self, subcommand: Option<&Subcommand>) -> ExitCode {
         let (status, text) = match self {
             Stop::Refused(what, number, line) => (1, refusal(&what, number, line)),
-            Stop::Failed(reason) => (2, format!("korzhinay: {reason}\n").into()),
-            Stop::Usage(reason) => (2, usage(&reason, subcommand).into()),
-            Stop::Unread => (2, Vec::new()),
+            Stop::Failed(reason) => (2, format!("korzhinay: {reason}\n")),
+            Stop::Usage(reason) => (2, usage(&reason, subcommand)),
+            Stop::Unread => (2, String::new()),
         };
         // With standard error closed there is nobody left to tell; the status still says it.
-        let _ = io::stderr().write_all(&text);
+        let _ = io::stderr().write_all(text.as_bytes());
         ExitCode::from(status)
     }
 }
 
-fn refusal(what: &str, number: u8, line: Option<Vec<u8>>) -> Vec<u8> {
-    let mut text = format!("{what}: refused ({number}): {}\n", words::refusal(number)).into_bytes();
-    if let Some(line) = line {
-        text.extend(b"    ");
-        text.extend(visible(&line));
-        text.push(b'\n');
-    }
-    text
+fn refusal(what: &str, number: u8, line: Option<String>) -> String {
+    let line = line.map_or(String::new(), |line| format!("    {line}\n"));
+    format!(
+        "{what}: refused ({number}): {}\n{line}",
+        words::refusal(number)
+    )
 }
 
 fn usage(reason: &str, subcommand: Option<&Subcommand>) -> String {

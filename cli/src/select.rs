@@ -21,7 +21,16 @@ pub fn select(request: &Request) -> Result<(), Stop> {
     let file = read(request.operand())?;
     let marks =
         library::select(&file, &table).map_err(|found| stop(request.operand(), &file, found))?;
-    let lines = lines(&file).zip(marks);
+    let lines: Vec<&[u8]> = lines(&file).collect();
+    if lines.len() != marks.len() {
+        // Both cut the file by the same rule; if they ever differ, no line may be lost.
+        let (here, there) = (lines.len(), marks.len());
+        let name = shown(request.operand());
+        return Err(Stop::Failed(format!(
+            "{name}: {here} lines and {there} marks"
+        )));
+    }
+    let lines = lines.into_iter().zip(marks);
     if request.has("--marks") {
         print(
             lines
@@ -30,9 +39,7 @@ pub fn select(request: &Request) -> Result<(), Stop> {
                 .as_bytes(),
         )
     } else if request.has("--annotate") {
-        print(&annotate::view(
-            lines.map(|(line, mark)| (without_end(line), mark)),
-        ))
+        print(annotate::view(lines.map(|(line, mark)| (without_end(line), mark))).as_bytes())
     } else {
         let kept: Vec<&[u8]> = lines
             .filter(|(_, mark)| *mark == KEPT)
@@ -62,6 +69,6 @@ fn stop(name: &[u8], file: &[u8], Refused { number, line }: Refused) -> Stop {
     }
     let text = lines(file)
         .nth(line as usize - 1)
-        .map(|line| without_end(line).to_vec());
+        .map(|line| shown(without_end(line)));
     Stop::Refused(format!("{}:{line}", shown(name)), number, text)
 }

@@ -1,19 +1,24 @@
-//! Bytes from outside, as they are shown in messages.
+//! Bytes from outside, as people see them.
 
-/// Control bytes but the tab as \xNN, so that none of them reaches a terminal; everything else as it is.
-pub fn visible(bytes: &[u8]) -> Vec<u8> {
-    let mut text = Vec::new();
-    for &byte in bytes {
-        if byte.is_ascii_control() && byte != b'\t' {
-            text.extend(format!("\\x{byte:02X}").bytes());
-        } else {
-            text.push(byte);
+/// Text as it is, but control characters other than the tab, and bytes that are no text, as \xNN: none of them reaches a terminal.
+pub fn shown(bytes: &[u8]) -> String {
+    let mut text = String::new();
+    for chunk in bytes.utf8_chunks() {
+        for character in chunk.valid().chars() {
+            if character.is_control() && character != '\t' {
+                let mut encoded = [0; 4];
+                escape(&mut text, character.encode_utf8(&mut encoded).as_bytes());
+            } else {
+                text.push(character);
+            }
         }
+        escape(&mut text, chunk.invalid());
     }
     text
 }
 
-/// The same as a string.
-pub fn shown(bytes: &[u8]) -> String {
-    String::from_utf8_lossy(&visible(bytes)).into_owned()
+fn escape(text: &mut String, bytes: &[u8]) {
+    for byte in bytes {
+        *text += &format!("\\x{byte:02X}");
+    }
 }

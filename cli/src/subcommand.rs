@@ -12,7 +12,7 @@ pub enum Operand {
     File,
     /// It may begin with `-` where it is the last word.
     Expression,
-    /// A short form of -t, and not wanted.
+    /// A short form of -t, which may be left out.
     Table,
 }
 
@@ -56,7 +56,7 @@ On a terminal --annotate dims the marks 0 and 2, unless NO_COLOR is set.",
         name: "eval",
         usage: "[-D NAME[=VALUE]].. [-s SETTINGS].. [-t TABLE] EXPRESSION",
         summary: "the value of an expression",
-        about: "Prints the value of an expression: a number in decimal, a string in double quotes, a wide string with L before them.",
+        about: "Prints the value of an expression: a number in decimal, a string in quotes, a wide string with L before them.",
         example: "target/korzhinay eval -D WEEK=50 '$(WEEK) GE 48 OR $(WEEK) LE 5'",
         options: &["-D", "-s", "-t", "--help"],
         operand: Operand::Expression,

@@ -3,10 +3,11 @@
 use std::collections::BTreeMap;
 
 use crate::files::read;
+use crate::library;
 use crate::options::Request;
 use crate::outcome::{refused, Stop};
 use crate::record::{self, RECORD_LENGTH};
-use crate::{library, settings};
+use crate::settings::{self, Setting};
 
 const MOST_RECORDS: usize = 512;
 
@@ -22,20 +23,27 @@ pub fn of(request: &Request) -> Result<Vec<u8>, Stop> {
     // Bare names ascend as padded ones do.
     let named = |record: &[u8]| (record::name(record).to_vec(), record.to_vec());
     let mut records: BTreeMap<_, _> = ready.chunks(RECORD_LENGTH).map(named).collect();
-    for file in request.all("-s") {
-        records.extend(settings::file(file)?.iter().map(|record| named(record)));
-    }
-    for text in request.all("-D") {
-        records.extend([named(&settings::definition(text)?)]);
-    }
-    let many = records.len();
-    if many > MOST_RECORDS {
-        return Err(Stop::Failed(format!(
-            "{many} names are set, and a table holds {MOST_RECORDS}"
-        )));
+    for Setting { record, place } in settings(request)? {
+        records.extend([named(&record)]);
+        if records.len() > MOST_RECORDS {
+            let reason = format!("one name more than the {MOST_RECORDS} that a table holds");
+            return Err(Stop::Failed(format!("{place}: {reason}")));
+        }
     }
     let records: Vec<_> = records.into_values().collect();
     checked(records.concat(), b"settings")
+}
+
+/// The settings as text, each over those before.
+fn settings(request: &Request) -> Result<Vec<Setting>, Stop> {
+    let mut settings = Vec::new();
+    for file in request.all("-s") {
+        settings.extend(settings::file(file)?);
+    }
+    for text in request.all("-D") {
+        settings.push(settings::definition(text)?);
+    }
+    Ok(settings)
 }
 
 /// A table, if the library finds it well formed.

@@ -12,7 +12,7 @@ pub fn eval(request: &Request) -> Result<(), Stop> {
     let value = library::evaluate(request.operand(), &table)
         .map_err(|number| refused(b"expression", number))?;
     let mut text = Vec::new();
-    write(&mut text, &value, b'"');
+    write(&mut text, &value, quote_for(&value));
     text.push(b'\n');
     print(&text)
 }
@@ -37,6 +37,18 @@ fn datum(request: &Request) -> Result<u8, String> {
 pub fn hexadecimal(bytes: &[u8]) -> String {
     let digits: Vec<String> = bytes.iter().map(|byte| format!("{byte:02x}")).collect();
     digits.join(" ")
+}
+
+/// Double quotes, but single ones where the string holds double ones alone.
+pub fn quote_for(value: &Value) -> u8 {
+    match value {
+        Value::Text(string) | Value::Wide(string)
+            if string.contains(&b'"') && !string.contains(&b'\'') =>
+        {
+            b'\''
+        }
+        _ => b'"',
+    }
 }
 
 /// A number in decimal, a string in quotes, a wide one with `L` before them.

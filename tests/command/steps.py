@@ -1,11 +1,14 @@
 """Runs that one folder cannot hold: several steps, inputs that are made, streams that are closed."""
 import os
+import resource
+import signal
 import subprocess
 import tempfile
 
 from command import COMMAND, ROOT, SECONDS, answer, run
 
 MEBIBYTE = 1 << 20
+RECORD = 128
 # One byte more than a description file may have.
 TOO_MANY = 65_536 + 1
 
@@ -70,6 +73,48 @@ def table_over_itself():
     yield "a table over itself", got, (b"", b"", 0, b"".join(NUMBERS + PCD))
 
 
+def table_that_cannot_be_written():
+    """A table of which only the first records can be written leaves the old one as it was, and nothing beside it."""
+    def short():
+        signal.signal(signal.SIGXFSZ, signal.SIG_IGN)
+        resource.setrlimit(resource.RLIMIT_FSIZE, (RECORD, RECORD))
+
+    with tempfile.TemporaryDirectory() as folder:
+        file = os.path.join(folder, "table.bin")
+        open(file, "wb").write(NUMBERS[0])
+        got = answer(["table", "-D", "A=1", "-D", "B=2", "-o", file], preexec_fn=short)
+        wanted = (b"", b"korzhinay: %s: File too large (os error 27)\n" % file.encode(), 2)
+        yield "a table that cannot be written", got, wanted
+        yield "the table before it", (open(file, "rb").read(), os.listdir(folder)), (NUMBERS[0], ["table.bin"])
+
+
+def table_through_a_link():
+    """A link to a table stays a link, and the table keeps its permissions."""
+    with tempfile.TemporaryDirectory() as folder:
+        file, link = os.path.join(folder, "table.bin"), os.path.join(folder, "link.bin")
+        open(file, "wb").close()
+        os.chmod(file, 0o640)
+        os.symlink("table.bin", link)
+        answer(["table", "-D", "A=0", "-o", link])
+        got = (os.path.islink(link), os.stat(file).st_mode & 0o777, open(file, "rb").read())
+    yield "a table through a link", got, (True, 0o640, NUMBERS[0])
+
+
+def unusable_streams():
+    """A standard stream that is closed, or open the other way, is told; it is never taken for an empty one or for one that was written."""
+    told = " (os error 9)\n"
+    file = "examples/window-right.dsc"
+    for arguments, stream in (("select -", "0"), ("select -s - " + file, "0"), ("select -t - " + file, "0"), ("eval 1", "1"),
+                              ("select -s examples/buoy.settings " + file, "1"), ("table -D A -o -", "1"), ("--help", "1")):
+        other_way = "0>/dev/null" if stream == "0" else "1</dev/null"
+        name = "-" if stream == "0" else "standard output"
+        for redirection in ("%s>&-" % stream, other_way):
+            done = subprocess.run("exec %s %s %s" % (COMMAND, arguments, redirection), shell=True, cwd=ROOT, stdin=subprocess.DEVNULL,
+                                  capture_output=True, text=True, timeout=SECONDS)
+            wanted = ("", "korzhinay: %s: Bad file descriptor%s" % (name, told), 2)
+            yield "%s with %s" % (arguments, redirection), (done.stdout, done.stderr, done.returncode), wanted
+
+
 def input_without_end():
     """Nothing waits for the end of an input that is too long already."""
     for arguments, number in ((["select", "-"], b"(14)"), (["eval", "-t", "-", "1"], b"(1)")):
@@ -96,5 +141,5 @@ def closed_standard_error():
 
 def checks():
     for part in (listing_is_read_back, examples_of_helps, length_of_settings, line_ends_in_definitions, table_over_itself,
-                 input_without_end, closed_standard_error):
+                 table_that_cannot_be_written, table_through_a_link, unusable_streams, input_without_end, closed_standard_error):
         yield from part()
