@@ -52,18 +52,22 @@ fn replace(path: &Path, bytes: &[u8]) -> io::Result<()> {
     let mut name = path.as_os_str().to_owned();
     name.push(format!(".{}", process::id()));
     let fresh = Path::new(&name);
-    let outcome = File::create_new(fresh).and_then(|mut file| {
-        file.write_all(bytes)?;
-        if let Ok(old) = fs::metadata(path) {
-            file.set_permissions(old.permissions())?;
-        }
-        fs::rename(fresh, path)
-    });
+    let file = File::create_new(fresh)?;
+    let outcome = fill(file, bytes, path).and_then(|()| fs::rename(fresh, path));
     if outcome.is_err() {
         // What is left of it is of no use, and the error that is told is the first one.
         let _ = fs::remove_file(fresh);
     }
     outcome
+}
+
+/// Writes a fresh file, with the permissions of the old one if there is one.
+fn fill(mut file: File, bytes: &[u8], old: &Path) -> io::Result<()> {
+    file.write_all(bytes)?;
+    match fs::metadata(old) {
+        Ok(old) => file.set_permissions(old.permissions()),
+        Err(_) => Ok(()),
+    }
 }
 
 pub fn print(text: &[u8]) -> Result<(), Stop> {
