@@ -155,7 +155,8 @@ enum korzhinay_datum {
  * A line whose first byte, blanks left out, is `!` has as its word the letters after it, in which case matters. It is a directive if
  * the word is if, ifdef, ifndef, elseif, elif (the same as elseif), else or endif; include and error make it plain, as all other lines
  * are. !if and !elseif are true where the expression after them is 1, !ifdef where the table has the macro's name, whatever its value,
- * !ifndef where it has not. Of a group the first branch that is true is taken, and an !else's if none is.
+ * !ifndef where it has not. Of a group that stands in no branch, or in one that is taken, the first branch that is true is taken, and
+ * an !else's if none is; of any other group no branch is taken.
  * Refusals, of which the first that applies is given; before all lines:
  *    1  the table is malformed
  *   14  the file is longer than 65,536 bytes

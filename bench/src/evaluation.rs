@@ -3,6 +3,7 @@
 use std::hint::black_box;
 
 use crate::c;
+use crate::expressions;
 use crate::settings;
 use crate::timing::{compare, compare_in, ROUNDS};
 
@@ -41,14 +42,10 @@ pub fn time() {
 }
 
 fn small() -> Vec<String> {
-    (0..10_000)
-        .map(|i| match i % 4 {
-            0 => format!("$(SETTING_{:04}) == TRUE", i % 500),
-            1 => format!("({i} + 0x{i:X}) * 3 << 2 >= {} AND NOT FALSE", i * 7),
-            2 => format!("$(SETTING_{:04}) GE 48 OR $(ABSENT) LE 5", i % 500),
-            _ => format!("(1 | 2) == {i} ? L'wide' : L'wider' # with a comment"),
-        })
-        .collect()
+    expressions::small([
+        |i| format!("$(SETTING_{:04}) GE 48 OR $(ABSENT) LE 5", i % 500),
+        |i| format!("(1 | 2) == {i} ? L'wide' : L'wider' # with a comment"),
+    ])
 }
 
 fn time_small(of: &str, rounds: usize, small: &[String], table: &[u8]) {

@@ -6,6 +6,7 @@
 #[path = "../../cli/src/c.rs"]
 mod c;
 mod evaluation;
+mod expressions;
 mod files;
 mod folder;
 mod processes;
@@ -16,7 +17,9 @@ mod timing;
 mod tokens;
 
 fn main() {
-    let command = std::env::args().nth(1).expect("the path of the command");
+    let path = std::env::args().nth(1).expect("the path of the command");
+    // Asked for now, since the processes come last, and run in another folder.
+    let command = std::fs::canonicalize(&path).unwrap_or_else(|error| panic!("{path}: {error}"));
     println!(
         "Medians of {} rounds, or of as many as a line says. What is compared runs in turns.",
         timing::ROUNDS

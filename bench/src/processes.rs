@@ -1,6 +1,7 @@
 //! Times whole processes over one file: the command, and unifdef and cpp over the same lines in C's syntax, where these are installed.
 //! A process is counted from its start to its end, with the reading of what it writes into a pipe.
 
+use std::ffi::OsString;
 use std::io::ErrorKind;
 use std::path::Path;
 use std::process::{Command, Stdio};
@@ -22,54 +23,64 @@ enum Same {
 /// A program and its arguments, told in a few words.
 struct Tool {
     what: &'static str,
-    program: String,
+    program: OsString,
     arguments: Vec<String>,
     same: Same,
 }
 
-pub fn time(command: &str) {
+pub fn time(command: &Path) {
     let folder = Folder::new();
     folder.write("settings.txt", settings::text(files::SET).as_bytes());
     folder.write("settings.bin", &settings::table()[..files::SET * 128]);
     let definitions = settings::in_c(files::SET, files::NAMED);
     folder.write("settings.h", definitions.as_bytes());
     let (installed, missing): (Vec<Tool>, Vec<Tool>) =
-        tools(command).into_iter().partition(Tool::is_installed);
+        others().into_iter().partition(Tool::is_installed);
+    // The command comes first and is never taken for missing: the others are compared with it.
+    let tools: Vec<Tool> = own(command).into_iter().chain(installed).collect();
     for file in files::both() {
         folder.write("file.dsc", file.as_bytes());
         folder.write("file.c", files::in_c(&file).as_bytes());
         println!("whole processes: {}", files::described(&file));
-        check(&installed, folder.path());
-        time_all(&installed, folder.path());
+        check(&tools, folder.path());
+        time_all(&tools, folder.path());
     }
     for tool in missing {
         println!("  {:<30} not installed", tool.what);
     }
 }
 
-/// The command first. Every name is decided for unifdef, which would leave a directive in its place otherwise; with -x2 it ends with 0
-/// where it changed something.
 #[rustfmt::skip]
-fn tools(command: &str) -> Vec<Tool> {
+fn own(command: &Path) -> [Tool; 2] {
+    [
+        Tool::new("korzhinay select -s SETTINGS", command, "select -s settings.txt file.dsc", Same::Bytes),
+        Tool::new("korzhinay select -t TABLE", command, "select -t settings.bin file.dsc", Same::Bytes),
+    ]
+}
+
+/// Every name is decided for unifdef, which would leave a directive in its place otherwise; with -x2 it ends with 0 where it changed
+/// something.
+#[rustfmt::skip]
+fn others() -> [Tool; 4] {
     let options = settings::options(files::SET, files::NAMED).join(" ");
     [
-        ("korzhinay select -s SETTINGS", command, "select -s settings.txt file.dsc", Same::Bytes),
-        ("korzhinay select -t TABLE", command, "select -t settings.bin file.dsc", Same::Bytes),
-        ("unifdef -f DEFINITIONS", "unifdef", "-x2 -f settings.h file.c", Same::Bytes),
-        ("unifdef -D.. -U..", "unifdef", &format!("-x2 {options} file.c"), Same::Bytes),
-        ("cpp -P -include DEFINITIONS", "cpp", "-P -include settings.h file.c", Same::LinesNotBlank),
-        ("true, which does nothing", "true", "", Same::Nothing),
+        Tool::new("unifdef -f DEFINITIONS", "unifdef", "-x2 -f settings.h file.c", Same::Bytes),
+        Tool::new("unifdef -D.. -U..", "unifdef", &format!("-x2 {options} file.c"), Same::Bytes),
+        Tool::new("cpp -P -include DEFINITIONS", "cpp", "-P -include settings.h file.c", Same::LinesNotBlank),
+        Tool::new("true, which does nothing", "true", "", Same::Nothing),
     ]
-    .map(|(what, program, arguments, same)| Tool {
-        what,
-        program: program.to_string(),
-        arguments: arguments.split_whitespace().map(str::to_string).collect(),
-        same,
-    })
-    .into()
 }
 
 impl Tool {
+    fn new(what: &'static str, program: impl Into<OsString>, arguments: &str, same: Same) -> Tool {
+        Tool {
+            what,
+            program: program.into(),
+            arguments: arguments.split_whitespace().map(str::to_string).collect(),
+            same,
+        }
+    }
+
     fn is_installed(&self) -> bool {
         let outcome = Command::new(&self.program).stdin(Stdio::null()).output();
         !outcome.is_err_and(|error| error.kind() == ErrorKind::NotFound)

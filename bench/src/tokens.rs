@@ -3,45 +3,45 @@
 
 use std::hint::black_box;
 
+use oracle::{Scan, Token};
+
 use crate::c;
+use crate::expressions;
 use crate::timing::compare;
 
+/// What the library writes: the refusal and the number of tokens, then of each token its code, start, length and value.
+struct Lent {
+    out: [u64; 2],
+    codes: [u8; 200],
+    starts: [u16; 200],
+    lens: [u16; 200],
+    values: [u64; 200],
+}
+
 pub fn time() {
-    let small: Vec<String> = (0..10_000)
-        .map(|i| match i % 4 {
-            0 => format!("$(SETTING_{:04}) == TRUE", i % 500),
-            1 => format!("({i} + 0x{i:X}) * 3 << 2 >= {} AND NOT FALSE", i * 7),
-            2 => format!(
+    let small = expressions::small([
+        |i| {
+            format!(
                 "gTokenSpace.PcdValue{} == \"a string of some length\"",
                 i % 100
-            ),
-            _ => format!("1 ? {i} : (2 | 3) || L'wide' != 'narrow' # with a comment"),
-        })
-        .collect();
-    let long = "(1 + $(SETTING_0001)) * 0xFFFF ".repeat(22);
-
-    let mut out = [0u64; 2];
-    let (mut codes, mut starts, mut lens, mut values) =
-        ([0u8; 200], [0u16; 200], [0u16; 200], [0u64; 200]);
-    let mut scan = |text: &str| {
-        // SAFETY: the call reads the text and writes within the arrays, which have the lengths that it asks for.
-        unsafe {
-            c::korzhinay_tokens(
-                text.as_ptr().cast(),
-                text.len(),
-                out.as_mut_ptr(),
-                codes.as_mut_ptr(),
-                starts.as_mut_ptr(),
-                lens.as_mut_ptr(),
-                values.as_mut_ptr(),
             )
-        };
-        black_box((&out, &codes, &starts, &lens, &values));
+        },
+        |i| format!("1 ? {i} : (2 | 3) || L'wide' != 'narrow' # with a comment"),
+    ]);
+    let long = "(1 + $(SETTING_0001)) * 0xFFFF ".repeat(22);
+    let mut lent = Lent {
+        out: [0; 2],
+        codes: [0; 200],
+        starts: [0; 200],
+        lens: [0; 200],
+        values: [0; 200],
     };
+    small.iter().for_each(|text| lent.check(text));
+    lent.check(&long);
     compare(
         "tokens of a small expression (10,000)",
         small.len(),
-        || small.iter().for_each(|text| scan(text)),
+        || small.iter().for_each(|text| lent.scan(text)),
         || {
             small
                 .iter()
@@ -51,7 +51,45 @@ pub fn time() {
     compare(
         "tokens of a long expression (682 bytes)",
         1,
-        || scan(&long),
+        || lent.scan(&long),
         || drop(black_box(oracle::scan(long.as_bytes()))),
     );
+}
+
+impl Lent {
+    fn scan(&mut self, text: &str) {
+        // SAFETY: the call reads the text and writes within the arrays, which have the lengths that it asks for.
+        unsafe {
+            c::korzhinay_tokens(
+                text.as_ptr().cast(),
+                text.len(),
+                self.out.as_mut_ptr(),
+                self.codes.as_mut_ptr(),
+                self.starts.as_mut_ptr(),
+                self.lens.as_mut_ptr(),
+                self.values.as_mut_ptr(),
+            )
+        };
+        black_box(self);
+    }
+
+    /// What is timed has the same tokens on both sides, and no refusal.
+    fn check(&mut self, text: &str) {
+        self.scan(text);
+        let [refusal, count] = self.out;
+        let tokens = (0..count as usize).map(|i| Token {
+            code: self.codes[i],
+            start: self.starts[i].into(),
+            len: self.lens[i].into(),
+            value: self.values[i],
+        });
+        let read = Scan {
+            tokens: tokens.collect(),
+            refusal: None,
+        };
+        assert!(
+            refusal == 0 && read == oracle::scan(text.as_bytes()),
+            "{text}"
+        );
+    }
 }

@@ -1,7 +1,7 @@
 """Asks the command about every description file of a folder: run.py [--expected REPORT] FOLDER [OPTION].., the options being those of
 `korzhinay select`. Each file is accepted or refused, with the line and the meaning. A crash, a run without an end, any other exit status
 and an answer that has not one mark for each line are failures; so is, with --expected, a line that is not in that report as it stands.
-The last line says how many files passed and failed; a folder without any is a failure too."""
+The last line says how many files passed and failed; a folder without any, and one that is not there, is a failure too."""
 import collections
 import os
 import re
@@ -13,8 +13,10 @@ COMMAND = os.path.join(HERE, "..", "..", "target", "korzhinay")
 ENDINGS = (".dsc", ".fdf", ".dsc.inc", ".fdf.inc")
 # the longest accepted file takes a few milliseconds
 SECONDS = 10
-# the first line of what is said of a refusal; the line at fault may follow
-REFUSAL = re.compile(r".*?(?::(\d+))?: refused \((\d+)\): (.*)\n")
+# what is said of a refusal after the file's path; the line at fault may follow
+REFUSAL = re.compile(r"(?::(\d+))?: refused \((\d+)\): (.*)\n")
+# a line of a report; a path may have words of an answer in it, an answer not
+REPORTED = re.compile(r"(.*): ((?:accepted,|refused \(\d+\)).*)")
 
 
 def description_files(folder):
@@ -31,10 +33,16 @@ def accepted(content, marks):
     return "accepted, %d lines kept of %d" % (marks.count(b"1"), lines)
 
 
-def refused(message):
-    """What is said of a file that is refused; None where the message is not that of a refusal."""
-    match = REFUSAL.match(message)
-    if not match:
+def shown(path):
+    """A path as the command writes it: control bytes as \\xNN, and bytes that are no UTF-8 as a replacement character."""
+    visible = re.sub(rb"[\x00-\x08\x0a-\x1f\x7f]", lambda byte: b"\\x%02X" % ord(byte.group()), os.fsencode(path))
+    return visible.decode(errors="replace")
+
+
+def refused(path, message):
+    """What is said of a file that is refused; None where the message is not that of a refusal, or of something else than the file."""
+    match = REFUSAL.match(message[len(shown(path)):])
+    if not match or not message.startswith(shown(path)):
         return None
     line, number, meaning = match.groups()
     return "refused (%s)%s: %s" % (number, " at line " + line if line else "", meaning)
@@ -52,7 +60,7 @@ def answer(path, options):
         with open(path, "rb") as file:
             said = accepted(file.read(), run.stdout)
     elif run.returncode == 1 and not run.stdout:
-        said = refused(message)
+        said = refused(path, message)
     return said or "FAILED, exit status %d: %s" % (run.returncode, message.strip()), said is not None
 
 
@@ -66,7 +74,7 @@ def summary(report):
 def unexpected(expected, report):
     """The files of which something else was said than the expected report says."""
     with open(expected, encoding="utf-8") as file:
-        wanted = dict(line.rstrip("\n").split(": ", 1) for line in file)
+        wanted = dict(REPORTED.fullmatch(line.rstrip("\n")).groups() for line in file)
     return {path for path in wanted.keys() | report.keys() if wanted.get(path) != report.get(path)}
 
 
@@ -77,6 +85,8 @@ def main(arguments):
     if not arguments:
         sys.exit(__doc__)
     folder, options = arguments[0], arguments[1:]
+    if not os.path.isdir(folder):
+        sys.exit("%s: there is no such folder" % folder)
     report, wrong = {}, set()
     for path in description_files(folder):
         report[path], good = answer(os.path.join(folder, path), options)

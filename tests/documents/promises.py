@@ -8,7 +8,7 @@ from sessions import ROOT, read
 PROMISES = "docs/PROMISES.md"
 
 
-def facts():
+def checks():
     """Each fact with what the page has and what is so."""
     text = read(PROMISES)
     listed = {path: int(lines) for path, lines in re.findall(r"^\| (crates/\S+) \| (\d+) \|", text, re.M)}
@@ -18,5 +18,6 @@ def facts():
     edits = {os.path.basename(path)[: -len(".edit")] for path in glob.glob(os.path.join(ROOT, "crates/*/must-fail/*.edit"))}
     yield "must-fail edits that the page does not name", sorted(edits - set(re.findall(r"`(?:[a-z]+/)?([a-z0-9_]+)`", text))), []
     # In parentheses stand names of edits, and of nothing else that has two underscores.
-    named = {name for group in re.findall(r"\(([^()]*)\)", text) for name in re.findall(r"`(?:[a-z]+/)?([a-z0-9]+_[a-z0-9]+_[a-z0-9_]+)`", group)}
+    groups = " ".join(re.findall(r"\(([^()]*)\)", text))
+    named = set(re.findall(r"`(?:[a-z]+/)?([a-z0-9]+_[a-z0-9]+_[a-z0-9_]+)`", groups))
     yield "edits that the page names and that are not there", sorted(named - edits), []

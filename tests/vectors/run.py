@@ -4,12 +4,12 @@ import sys
 
 import evaluation
 import field
-import library
 import selection
 import tables
 import tokens
 
 sys.path.insert(0, os.path.join(os.path.dirname(os.path.abspath(__file__)), ".."))
+import library
 from tally import check, end
 
 for expression, refusal, read in tokens.VECTORS:

@@ -1,8 +1,8 @@
-"""The shared library's calls, for the vectors."""
+"""The shared library's calls, for the vectors and the tables of the manual."""
 import ctypes
 import os
 
-ROOT = os.path.dirname(os.path.dirname(os.path.dirname(os.path.abspath(__file__))))
+ROOT = os.path.dirname(os.path.dirname(os.path.abspath(__file__)))
 LIB = ctypes.CDLL(os.path.join(ROOT, "target", "libkorzhinay.so"))
 LIB.korzhinay_table.restype = ctypes.c_uint8
 LIB.korzhinay_lookup.restype = ctypes.c_uint8
