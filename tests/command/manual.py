@@ -5,6 +5,7 @@ import subprocess
 import tempfile
 
 from command import COMMAND, ROOT, SECONDS, answer
+from meanings import meanings
 
 OPTION = re.compile(r"(?<![\w-])(--[a-z]+|-[a-zA-Z])(?![\w-])")
 SUBCOMMANDS = ["select", "eval", "field", "tokens", "table"]
@@ -38,9 +39,7 @@ def options_of_helps():
 
 def refusals():
     """The page's list of refusals is that of the command."""
-    source = open(os.path.join(ROOT, "cli", "src", "words.rs"), encoding="utf-8").read()
-    body = source[source.index("pub fn refusal"):source.index("pub fn code")]
-    wanted = re.findall(r'^ +(\d+) => "(.*)",$', body, re.MULTILINE)
+    wanted = [(str(number), meaning) for number, meaning in meanings().items()]
     listed = re.findall(r"^\.TP\n\.B (\d+)\n(.*)$", section(page(), "REFUSALS"), re.MULTILINE)
     yield "refusals of the command", len(wanted), 26
     yield "refusals of the man page", listed, wanted

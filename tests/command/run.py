@@ -4,11 +4,11 @@ import itertools
 import os
 import sys
 
+# The tally and the command's meanings stand beside this folder.
+sys.path.insert(0, os.path.join(os.path.dirname(os.path.abspath(__file__)), ".."))
 import cases
 import manual
 import steps
-
-sys.path.insert(0, os.path.join(os.path.dirname(os.path.abspath(__file__)), ".."))
 from tally import check, end
 
 for name, got, wanted in itertools.chain(cases.checks(), steps.checks(), manual.checks()):

@@ -13,8 +13,8 @@ COMMAND = os.path.join(HERE, "..", "..", "target", "korzhinay")
 ENDINGS = (".dsc", ".fdf", ".dsc.inc", ".fdf.inc")
 # the longest accepted file takes a few milliseconds
 SECONDS = 10
-# what is said of a refusal after the file's path; the line at fault may follow
-REFUSAL = re.compile(r"(?::(\d+))?: refused \((\d+)\): (.*)\n")
+# what is said of a refusal of standard input, by which a file is handed over: no path can be taken for an answer; a line may follow
+REFUSAL = re.compile(r"-(?::(\d+))?: refused \((\d+)\): (.*)\n")
 # a line of a report; a path may have words of an answer in it, an answer not
 REPORTED = re.compile(r"(.*): ((?:accepted,|refused \(\d+\)).*)")
 
@@ -33,16 +33,10 @@ def accepted(content, marks):
     return "accepted, %d lines kept of %d" % (marks.count(b"1"), lines)
 
 
-def shown(path):
-    """A path as the command writes it: control bytes as \\xNN, and bytes that are no UTF-8 as a replacement character."""
-    visible = re.sub(rb"[\x00-\x08\x0a-\x1f\x7f]", lambda byte: b"\\x%02X" % ord(byte.group()), os.fsencode(path))
-    return visible.decode(errors="replace")
-
-
-def refused(path, message):
+def refused(message):
     """What is said of a file that is refused; None where the message is not that of a refusal, or of something else than the file."""
-    match = REFUSAL.match(message[len(shown(path)):])
-    if not match or not message.startswith(shown(path)):
+    match = REFUSAL.match(message)
+    if not match:
         return None
     line, number, meaning = match.groups()
     return "refused (%s)%s: %s" % (number, " at line " + line if line else "", meaning)
@@ -50,17 +44,18 @@ def refused(path, message):
 
 def answer(path, options):
     """What the command says of a file, and whether that is an answer at all."""
+    with open(path, "rb") as file:
+        content = file.read()
     try:
-        run = subprocess.run([COMMAND, "select", "--marks", *options, path], capture_output=True, timeout=SECONDS)
+        run = subprocess.run([COMMAND, "select", "--marks", *options, "-"], input=content, capture_output=True, timeout=SECONDS)
     except subprocess.TimeoutExpired:
         return "FAILED, no end after %d seconds" % SECONDS, False
     message = run.stderr.decode(errors="backslashreplace")
     said = None
     if run.returncode == 0 and not message:
-        with open(path, "rb") as file:
-            said = accepted(file.read(), run.stdout)
+        said = accepted(content, run.stdout)
     elif run.returncode == 1 and not run.stdout:
-        said = refused(path, message)
+        said = refused(message)
     return said or "FAILED, exit status %d: %s" % (run.returncode, message.strip()), said is not None
 
 
