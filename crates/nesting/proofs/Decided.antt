@@ -12,13 +12,14 @@ use Rattle.line.specs.declared.Directive.{Directive}
 use Rattle.line.specs.declared.Directive.the-variants.{Plain, If, Ifdef, Ifndef, Elseif, Else, Endif, Unknown}
 use Rattle.condition.specs.declared.Condition.{Condition}
 use Rattle.condition.specs.declared.Condition.the-variants.{Holds, Fails, Wrong}
-use Rattle.nesting.specs.Groups.{Group, group, standingOf, closedOf, live, around, seeking, reads}
-use Rattle.nesting.specs.Rules.{unless, turned, elseifIn, elseifRuling, elseIn, elseRuling, endRuling}
+use Rattle.nesting.specs.Groups.{Group, group, standingOf, closedOf}
+use Rattle.ruling.specs.Standings.{live, around, seeking, reads}
+use Rattle.ruling.specs.Rules.{unless, turned, elseifIn, elseifRuling, elseIn, elseRuling, endRuling}
 use Rattle.nesting.specs.Decide.{State, Outcome, go, stop, applied, opened, openedBy, opening, decided}
-use Rattle.nesting.specs.declared.Standing.{Standing}
-use Rattle.nesting.specs.declared.Standing.the-variants.{Outside, Dead, Seeking, Taken, Past}
-use Rattle.nesting.specs.declared.Ruling.{Ruling}
-use Rattle.nesting.specs.declared.Ruling.the-variants.{Stay, Turn, Final, Close, Refuse}
+use Rattle.ruling.specs.declared.Standing.{Standing}
+use Rattle.ruling.specs.declared.Standing.the-variants.{Outside, Dead, Seeking, Taken, Past}
+use Rattle.ruling.specs.declared.Ruling.{Ruling}
+use Rattle.ruling.specs.declared.Ruling.the-variants.{Stay, Turn, Final, Close, Refuse}
 
 -- the count in an outcome
 abbrev pub Counts : ℕ → Outcome → Type 0

@@ -11,8 +11,8 @@ use lib.Dec.{leb}
 use Rattle.nesting.specs.Groups.{Group, group, standingOf, closedOf}
 use Rattle.nesting.specs.Decide.{State, state, turnTo, finalTo, closeOne}
 use Rattle.nesting.specs.Stack.{entryOf, standingIn, closedIn, Stacked, Represents}
-use Rattle.nesting.specs.declared.Standing.{Standing}
-use Rattle.nesting.specs.declared.Standing.the-variants.{Outside, Dead, Seeking, Taken, Past}
+use Rattle.ruling.specs.declared.Standing.{Standing}
+use Rattle.ruling.specs.declared.Standing.the-variants.{Outside, Dead, Seeking, Taken, Past}
 use Rattle.nesting.specs.declared.Selection.{Selection}
 
 -- an entry tells what was put into it

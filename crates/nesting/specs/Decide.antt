@@ -11,12 +11,13 @@ use Rattle.line.specs.declared.Directive.{Directive}
 use Rattle.line.specs.declared.Directive.the-variants.{Plain, If, Ifdef, Ifndef, Elseif, Else, Endif, Unknown}
 use Rattle.condition.specs.declared.Condition.{Condition}
 use Rattle.condition.specs.declared.Condition.the-variants.{Holds, Fails, Wrong}
-use Rattle.nesting.specs.Groups.{Group, group, standingOf, closedOf, live}
-use Rattle.nesting.specs.Rules.{DROPPED, KEPT, UNREAD, NOT-TAKEN, TAKEN, elseifRuling, elseRuling, endRuling}
-use Rattle.nesting.specs.declared.Standing.{Standing}
-use Rattle.nesting.specs.declared.Standing.the-variants.{Dead, Seeking, Taken}
-use Rattle.nesting.specs.declared.Ruling.{Ruling}
-use Rattle.nesting.specs.declared.Ruling.the-variants.{Stay, Turn, Final, Close, Refuse}
+use Rattle.nesting.specs.Groups.{Group, group, standingOf, closedOf}
+use Rattle.ruling.specs.Standings.{live}
+use Rattle.ruling.specs.Rules.{DROPPED, KEPT, UNREAD, NOT-TAKEN, TAKEN, elseifRuling, elseRuling, endRuling}
+use Rattle.ruling.specs.declared.Standing.{Standing}
+use Rattle.ruling.specs.declared.Standing.the-variants.{Dead, Seeking, Taken}
+use Rattle.ruling.specs.declared.Ruling.{Ruling}
+use Rattle.ruling.specs.declared.Ruling.the-variants.{Stay, Turn, Final, Close, Refuse}
 
 -- the most groups that may be open
 abbrev pub MOST-GROUPS : ℕ

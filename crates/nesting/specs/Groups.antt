@@ -1,11 +1,9 @@
--- The open groups of a run (document 01, "Lines and directives"), the innermost first, and which directives are read.
+-- The open groups of a run (document 01, "Lines and directives"), the innermost first.
 use Prim.Native.Nat.{ℕ}
-use mathlib.Core.Bool.{Bool, true, false, not, _&&_}
+use mathlib.Core.Bool.{Bool, false}
 use mathlib.Core.List.{List, [], _∷_}
-use Rattle.line.specs.declared.Directive.{Directive}
-use Rattle.line.specs.declared.Directive.the-variants.{Plain, If, Ifdef, Ifndef, Elseif, Else, Endif, Unknown}
-use Rattle.nesting.specs.declared.Standing.{Standing}
-use Rattle.nesting.specs.declared.Standing.the-variants.{Outside, Dead, Seeking, Taken, Past}
+use Rattle.ruling.specs.declared.Standing.{Standing}
+use Rattle.ruling.specs.declared.Standing.the-variants.{Outside}
 
 -- a group from its `!if` to its `!endif`: how it stands, whether its `!else` was met, and the line of its `!if`
 pub data Group : Type 0 where
@@ -19,38 +17,3 @@ standingOf (group s b n ∷ gs) = s
 abbrev pub closedOf : List Group → Bool
 closedOf [] = false
 closedOf (group s b n ∷ gs) = b
-
--- all branches around this place are taken
-abbrev pub live : Standing → Bool
-live Outside = true
-live Dead = false
-live Seeking = false
-live Taken = true
-live Past = false
-
--- a group is open, and the branch around the whole of it is taken
-abbrev pub around : Standing → Bool
-around Outside = false
-around Dead = false
-around Seeking = true
-around Taken = true
-around Past = true
-
--- and no branch of it was taken so far
-abbrev pub seeking : Standing → Bool
-seeking Outside = false
-seeking Dead = false
-seeking Seeking = true
-seeking Taken = false
-seeking Past = false
-
--- the directives whose outcome depends on the text after their word
-unfoldable pub reads : Directive → Standing → Bool
-reads Plain s = false
-reads If s = live s
-reads Ifdef s = live s
-reads Ifndef s = live s
-reads Elseif s = seeking s
-reads Else s = around s
-reads Endif s = around s
-reads Unknown s = false

@@ -1,4 +1,3 @@
 pub mod Groups
-pub mod Rules
 pub mod Decide
 pub mod Stack

@@ -9,8 +9,8 @@ use lib.Dec.{eqb, leb}
 use Rattle.text.specs.Bytes.{pick}
 use Rattle.nesting.specs.Groups.{Group, group}
 use Rattle.nesting.specs.Decide.{MOST-GROUPS, State, Outcome, go, stop}
-use Rattle.nesting.specs.declared.Standing.{Standing}
-use Rattle.nesting.specs.declared.Standing.the-variants.{Outside, Dead, Seeking, Taken, Past}
+use Rattle.ruling.specs.declared.Standing.{Standing}
+use Rattle.ruling.specs.declared.Standing.the-variants.{Outside, Dead, Seeking, Taken, Past}
 use Rattle.nesting.specs.declared.Selection.{Selection}
 use Rattle.nesting.specs.declared.Step.{Step}
 

@@ -1,11 +1,10 @@
 // What a line comes to, from its directive and what its text says.
 use crate::Selection;
-use crate::Standing;
 use crate::Step;
-use crate::rules;
 use crate::stack;
 use condition::Condition;
 use line::Directive;
+use ruling::Standing;
 use units::LineNumber;
 ghost use Prim.Native.Nat.{_≤_, _<_};
 ghost use Rattle.nesting.specs.Decide.{State, plain as plainOf, opening, decided};
@@ -21,12 +20,12 @@ fn open_group(c: Condition, n: LineNumber, x: Selection) -> Step
     if 16 <= depth {
         return stack::refused(units::NESTING_DEEP, x);
     }
-    if !rules::live(stack::standing(x)) {
-        return stack::went(rules::UNREAD, stack::push(x, Standing::Dead, n));
+    if !ruling::live(stack::standing(x)) {
+        return stack::went(ruling::UNREAD, stack::push(x, Standing::Dead, n));
     }
     match c {
-        Condition::Holds(_) => stack::went(rules::TAKEN, stack::push(x, Standing::Taken, n)),
-        Condition::Fails(_) => stack::went(rules::NOT_TAKEN, stack::push(x, Standing::Seeking, n)),
+        Condition::Holds(_) => stack::went(ruling::TAKEN, stack::push(x, Standing::Taken, n)),
+        Condition::Fails(_) => stack::went(ruling::NOT_TAKEN, stack::push(x, Standing::Seeking, n)),
         Condition::Wrong(number) => stack::refused(number, x),
     }
 }
@@ -36,10 +35,10 @@ fn plain(x: Selection) -> Step
     requires { ⌜ x .depth ≤ 16 ⌝ }
     ensures { λ z. ⌜ ((t : State) → Represents x t → Meets x z (plainOf (t .count) (t .groups))) ⌝ }
 {
-    if rules::live(stack::standing(x)) {
-        return stack::went(rules::KEPT, x);
+    if ruling::live(stack::standing(x)) {
+        return stack::went(ruling::KEPT, x);
     }
-    stack::went(rules::DROPPED, x)
+    stack::went(ruling::DROPPED, x)
 }
 
 // Line n with its directive and what its text says.
@@ -53,14 +52,14 @@ pub fn decide(d: Directive, c: Condition, n: LineNumber, x: Selection) -> Step
         Directive::Ifdef => open_group(c, n, x),
         Directive::Ifndef => open_group(c, n, x),
         Directive::Elseif => stack::apply(
-            rules::elseif_ruling(c, stack::standing(x), stack::is_closed(x)),
+            ruling::elseif_ruling(c, stack::standing(x), stack::is_closed(x)),
             x,
         ),
         Directive::Else => stack::apply(
-            rules::else_ruling(c, stack::standing(x), stack::is_closed(x)),
+            ruling::else_ruling(c, stack::standing(x), stack::is_closed(x)),
             x,
         ),
-        Directive::Endif => stack::apply(rules::end_ruling(c, stack::standing(x)), x),
+        Directive::Endif => stack::apply(ruling::end_ruling(c, stack::standing(x)), x),
         Directive::Unknown => stack::refused(units::WORD_UNKNOWN, x),
     }
 }

@@ -1,8 +1,8 @@
 // The open groups in the arrays of a selection.
-use crate::Ruling;
 use crate::Selection;
-use crate::Standing;
 use crate::Step;
+use ruling::Ruling;
+use ruling::Standing;
 use units::LineNumber;
 ghost use mathlib.Core.Path.{_≡_};
 ghost use mathlib.Core.Bool.{false};

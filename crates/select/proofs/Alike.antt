@@ -15,7 +15,8 @@ use Rattle.line.specs.declared.Directive.{Directive}
 use Rattle.condition.specs.Conditions.{says, countOf}
 use Rattle.condition.specs.declared.Condition.{Condition}
 use Rattle.condition.specs.declared.Condition.the-variants.{Fails}
-use Rattle.nesting.specs.Groups.{Group, standingOf, reads}
+use Rattle.nesting.specs.Groups.{Group, standingOf}
+use Rattle.ruling.specs.Standings.{reads}
 use Rattle.nesting.specs.Decide.{State, Outcome, go, stop, decided}
 use Rattle.nesting.proofs.Decided.{Marked, read-marked}
 use Rattle.select.specs.Step.{heard, step}

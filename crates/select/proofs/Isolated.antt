@@ -16,7 +16,8 @@ use Rattle.line.specs.Lines.{lines}
 use Rattle.line.specs.Directives.{directiveOf, textOf}
 use Rattle.condition.specs.Conditions.{says, countOf}
 use Rattle.condition.proofs.Isolated.{same-says}
-use Rattle.nesting.specs.Groups.{standingOf, reads}
+use Rattle.nesting.specs.Groups.{standingOf}
+use Rattle.ruling.specs.Standings.{reads}
 use Rattle.nesting.specs.Decide.{State}
 use Rattle.nesting.proofs.Decided.{Marked, Unmarked, read-marked, unread-marked}
 use Rattle.select.specs.Step.{heard, step}

@@ -17,7 +17,8 @@ use Rattle.condition.specs.Conditions.{says, countOf}
 use Rattle.condition.specs.declared.Condition.{Condition}
 use Rattle.condition.specs.declared.Condition.the-variants.{Fails}
 use Rattle.condition.proofs.Counts.{count-small}
-use Rattle.nesting.specs.Groups.{Group, standingOf, reads}
+use Rattle.nesting.specs.Groups.{Group, standingOf}
+use Rattle.ruling.specs.Standings.{reads}
 use Rattle.nesting.specs.Decide.{State, Outcome, go, stop, decided}
 use Rattle.nesting.specs.Stack.{Meets}
 use Rattle.nesting.specs.declared.Selection.{Selection}

@@ -25,8 +25,8 @@ use Rattle.evaluation.specs.Evaluation.{inSoundTable, ofTokens}
 use Rattle.line.specs.Lines.{onto, endsLine, lines}
 use Rattle.line.specs.Directives.{named, wordStart, textStart, directiveOf}
 use Rattle.condition.specs.Conditions.{idle, ofAnswer, expressionSays, nameAt, namedSays, nameSays, says}
-use Rattle.nesting.specs.Groups.{reads}
-use Rattle.nesting.specs.Rules.{elseifRuling, elseRuling, endRuling}
+use Rattle.ruling.specs.Standings.{reads}
+use Rattle.ruling.specs.Rules.{elseifRuling, elseRuling, endRuling}
 use Rattle.nesting.specs.Decide.{opening, decided}
 use Rattle.select.specs.Step.{heard, step}
 use Rattle.select.specs.Select.{Result, accepted, refused, run, selection}

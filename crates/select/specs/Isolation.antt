@@ -11,8 +11,9 @@ use Rattle.settings.specs.Table.{wellFormed}
 use Rattle.line.specs.Lines.{lines}
 use Rattle.line.specs.Directives.{directiveOf, textOf}
 use Rattle.condition.specs.Naming.{SameRecords}
-use Rattle.nesting.specs.Rules.{NOT-TAKEN}
-use Rattle.nesting.specs.Groups.{standingOf, reads}
+use Rattle.ruling.specs.Rules.{NOT-TAKEN}
+use Rattle.nesting.specs.Groups.{standingOf}
+use Rattle.ruling.specs.Standings.{reads}
 use Rattle.nesting.specs.Decide.{State, go}
 use Rattle.select.specs.Step.{MOST-LINE, step}
 use Rattle.select.specs.Select.{MOST-FILE, accepted, selection, Selects}

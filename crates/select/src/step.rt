@@ -4,7 +4,6 @@ use line::word;
 use nesting::Selection;
 use nesting::Step;
 use nesting::decide;
-use nesting::rules;
 use nesting::stack;
 use units::LineNumber;
 ghost use mathlib.Core.Path.{_≡_};
@@ -49,7 +48,7 @@ pub fn step<'a>(table: &'a [u8], n: LineNumber, x: Selection, line: &'a [u8]) ->
         return stack::refused(units::LINE_LONG, x);
     }
     let d = word::directive(line);
-    if !rules::reads(d, stack::standing(x)) {
+    if !ruling::reads(d, stack::standing(x)) {
         return decide::unread(d, n, x);
     }
     let c = condition::says(table, d, word::text(line));

@@ -3,7 +3,7 @@ use mathlib.Core.Path.{sym, ap, _∙_}
 use borrow.Author.Tests.{le-leb, lt-leb, not-true, not-false}
 use native.Mathlib.Omega.{arith}
 use lib.ListN.{length}
-use Rattle.nesting.specs.Groups.{live}
+use Rattle.ruling.specs.Standings.{live}
 use Rattle.nesting.specs.Decide.{opening}
 use borrow.Author.Needs.{needs}
 use Rattle.nesting.proofs.decide.open_group.Statement.{statement}

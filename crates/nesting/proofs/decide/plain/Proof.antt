@@ -1,6 +1,6 @@
 -- How the innermost group stands decides.
 use mathlib.Core.Path.{sym, ap, _∙_}
-use Rattle.nesting.specs.Groups.{live}
+use Rattle.ruling.specs.Standings.{live}
 use borrow.Author.Needs.{needs}
 use Rattle.nesting.proofs.decide.plain.Statement.{statement}
 use Rattle.nesting.proofs.decide.plain.Tie as tie

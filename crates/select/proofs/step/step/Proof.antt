@@ -7,7 +7,8 @@ use borrow.Author.Tests.{not-true, not-false}
 use Rattle.condition.specs.Conditions.{says, countOf}
 use Rattle.condition.proofs.Counts.{count-small}
 use Rattle.line.specs.Directives.{directiveOf, textOf}
-use Rattle.nesting.specs.Groups.{standingOf, reads}
+use Rattle.nesting.specs.Groups.{standingOf}
+use Rattle.ruling.specs.Standings.{reads}
 use Rattle.nesting.specs.Decide.{decided}
 use Rattle.select.proofs.Steps.{long-step, unread-step, read-step, went-on, refused-back}
 use borrow.Author.Needs.{needs}

@@ -1,8 +1,8 @@
 -- Whether the group is closed and how it stands decides.
-use Rattle.nesting.specs.Rules.{elseifRuling}
+use Rattle.ruling.specs.Rules.{elseifRuling}
 use borrow.Author.Needs.{needs}
-use Rattle.nesting.proofs.rules.elseif_ruling.Statement.{statement}
-use Rattle.nesting.proofs.rules.elseif_ruling.Tie as tie
+use Rattle.ruling.proofs.elseif_ruling.Statement.{statement}
+use Rattle.ruling.proofs.elseif_ruling.Tie as tie
 
 returns : tie.Need-returns
 unfolding elseifRuling

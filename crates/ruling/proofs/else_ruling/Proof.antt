@@ -1,8 +1,8 @@
 -- Whether the group is closed and how it stands decides.
-use Rattle.nesting.specs.Rules.{elseRuling}
+use Rattle.ruling.specs.Rules.{elseRuling}
 use borrow.Author.Needs.{needs}
-use Rattle.nesting.proofs.rules.else_ruling.Statement.{statement}
-use Rattle.nesting.proofs.rules.else_ruling.Tie as tie
+use Rattle.ruling.proofs.else_ruling.Statement.{statement}
+use Rattle.ruling.proofs.else_ruling.Tie as tie
 
 returns : tie.Need-returns
 unfolding elseRuling

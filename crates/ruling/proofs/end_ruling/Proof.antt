@@ -1,8 +1,8 @@
 -- How the group stands decides.
-use Rattle.nesting.specs.Rules.{endRuling}
+use Rattle.ruling.specs.Rules.{endRuling}
 use borrow.Author.Needs.{needs}
-use Rattle.nesting.proofs.rules.end_ruling.Statement.{statement}
-use Rattle.nesting.proofs.rules.end_ruling.Tie as tie
+use Rattle.ruling.proofs.end_ruling.Statement.{statement}
+use Rattle.ruling.proofs.end_ruling.Tie as tie
 
 enum-told : tie.Need-enum-told
 enum-told c = search needs

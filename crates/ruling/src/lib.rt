@@ -1,11 +1,33 @@
 // Which directives are read, and what those inside a group make of it.
-use crate::Ruling;
-use crate::Standing;
 use condition::Condition;
 use line::Directive;
 ghost use mathlib.Core.Path.{_≡_};
-ghost use Rattle.nesting.specs.Groups.{live as liveOf, around as aroundOf, seeking as seekingOf, reads as readsOf};
-ghost use Rattle.nesting.specs.Rules.{unless as unlessOf, turned as turnedBy, elseifIn, elseifRuling, elseIn, elseRuling, endRuling};
+ghost use Rattle.ruling.specs.Standings.{live as liveOf, around as aroundOf, seeking as seekingOf, reads as readsOf};
+ghost use Rattle.ruling.specs.Rules.{unless as unlessOf, turned as turnedBy, elseifIn, elseifRuling, elseIn, elseRuling, endRuling};
+
+// How an open group stands, or that none is open.
+pub enum Standing {
+    // no group is open
+    Outside,
+    // the branch around the group is not taken
+    Dead,
+    // it is, and no branch of the group was taken so far
+    Seeking,
+    // the present branch is taken
+    Taken,
+    // an earlier branch was taken
+    Past,
+}
+
+// What a line makes of the innermost group, with the line's mark, or the number of the refusal.
+pub enum Ruling {
+    Stay(u8),
+    Turn(u8, Standing),
+    // an `!else`: the group's last branch begins
+    Final(u8, Standing),
+    Close(u8),
+    Refuse(u8),
+}
 
 pub const DROPPED: u8 = 0;
 

@@ -1,8 +1,8 @@
 -- The directive decides.
-use Rattle.nesting.specs.Groups.{reads}
+use Rattle.ruling.specs.Standings.{reads}
 use borrow.Author.Needs.{needs}
-use Rattle.nesting.proofs.rules.reads.Statement.{statement}
-use Rattle.nesting.proofs.rules.reads.Tie as tie
+use Rattle.ruling.proofs.reads.Statement.{statement}
+use Rattle.ruling.proofs.reads.Tie as tie
 
 enum-told : tie.Need-enum-told
 enum-told c = search needs

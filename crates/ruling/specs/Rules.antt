@@ -6,10 +6,10 @@ use Rattle.units.specs.Refusals.{DIRECTIVE-STRAY}
 use Rattle.text.specs.Bytes.{pick}
 use Rattle.condition.specs.declared.Condition.{Condition}
 use Rattle.condition.specs.declared.Condition.the-variants.{Holds, Fails, Wrong}
-use Rattle.nesting.specs.declared.Standing.{Standing}
-use Rattle.nesting.specs.declared.Standing.the-variants.{Outside, Dead, Seeking, Taken, Past}
-use Rattle.nesting.specs.declared.Ruling.{Ruling}
-use Rattle.nesting.specs.declared.Ruling.the-variants.{Stay, Turn, Final, Close, Refuse}
+use Rattle.ruling.specs.declared.Standing.{Standing}
+use Rattle.ruling.specs.declared.Standing.the-variants.{Outside, Dead, Seeking, Taken, Past}
+use Rattle.ruling.specs.declared.Ruling.{Ruling}
+use Rattle.ruling.specs.declared.Ruling.the-variants.{Stay, Turn, Final, Close, Refuse}
 
 -- the marks of lines: a plain line that is dropped or kept; a directive that is not read; one that is read and whose branch is not taken,
 -- or is; a read `!endif`
