@@ -1,6 +1,6 @@
 -- A file of no bytes has begun no line; in any other the last byte tells.
 use native.Mathlib.Omega.{arith}
-use borrow.Author.Tests.{eq-eqb, ne-eqb, lt-ltb, le-ltb}
+use borrow.Author.Tests.{lt-ltb, le-ltb}
 use lib.ListN.{length}
 use Rattle.line.specs.Cutting.{opened}
 use borrow.Author.Needs.{needs}
