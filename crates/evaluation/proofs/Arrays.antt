@@ -14,7 +14,7 @@ use Rattle.token.specs.declared.scan.Ending.the-variants.{Complete}
 use Rattle.token.proofs.Reading.{most-tokens}
 use Rattle.grammar.specs.Parse.{parse}
 use Rattle.expression.specs.Meaning.{codeOf, meaning}
-use Rattle.expression.specs.Descent.{tokenAt}
+use Rattle.expression.specs.Parsing.{tokenAt}
 use Rattle.evaluation.specs.Evaluation.{END-TOKEN, tokenIn, concluded, ofTokens, inSoundTable}
 
 -- one entry of each token, stored in a list that has room

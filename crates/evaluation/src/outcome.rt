@@ -2,8 +2,7 @@
 use crate::Answer;
 use crate::Value;
 use crate::bars;
-use expression::descent;
-use expression::descent::Parsed;
+use expression::Parsed;
 use text::parts;
 use token::scan;
 use token::scan::Ending;
@@ -21,7 +20,7 @@ ghost use Rattle.settings.specs.Table.{wellFormed};
 ghost use Rattle.grammar.specs.Parse.{parse};
 ghost use Rattle.value.specs.Places.{meant, known};
 ghost use Rattle.expression.specs.Meaning.{codeOf, meaning};
-ghost use Rattle.expression.specs.Descent.{tokenAt};
+ghost use Rattle.expression.specs.Parsing.{tokenAt};
 ghost use Rattle.evaluation.specs.Evaluation.{refusedWith, finished, clashes as clashesOf, judged, concluded, inSoundTable, evaluation, stated, HandsBack};
 
 fn refused(number: u8) -> Answer
@@ -84,7 +83,7 @@ fn conclude<'a>(
     requires { ⌜ (wellFormed (now table) ≡ true) × (n .0 ≤ 200) × (n .0 ≤ length (now codes)) ⌝ }
     ensures { λ r. ⌜ stated (now (expr .entry)) (now (table .entry)) r ≡ concluded (take (n .0) (now (codes .entry))) (parse codeOf (meaning (now (expr .entry)) (now (table .entry))) (tokenAt (now (codes .entry)) (now (starts .entry)) (now (lens .entry)) (now (values .entry)) (n .0)) (n .0)) ⌝ }
 {
-    match descent::expression(expr, table, codes, starts, lens, values, n, TokenNumber(0)) {
+    match expression::parse(expr, table, codes, starts, lens, values, n) {
         Parsed::Bad(_) => refused(units::NO_DERIVATION),
         Parsed::Got(a, end) => {
             if end.0 != n.0 {

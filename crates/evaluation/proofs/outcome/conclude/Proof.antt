@@ -1,15 +1,14 @@
 -- What the descent found is what the grammar's parser finds; a token left over is in the way.
-use native.Mathlib.Omega.{arith}
 use mathlib.Core.Path.{sym, _∙_}
 use borrow.Author.Needs.{needs}
 use Rattle.grammar.proofs.Steps.{whole-bad, whole-rest, whole-made}
 use Rattle.evaluation.proofs.outcome.conclude.Statement.{statement}
 use Rattle.evaluation.proofs.outcome.conclude.Tie as tie
 
-expression-requires : tie.Need-expression-requires
-expression-requires c κs =
+parse-requires : tie.Need-parse-requires
+parse-requires c κs =
     let s = c .before .before in
-    record { sound = s .pre .0; few = s .pre .1; within = omega arith }
+    record { sound = s .pre .0; few = s .pre .1 }
 
 enum-told : tie.Need-enum-told
 enum-told c = search needs
@@ -26,7 +25,7 @@ refused-requires-2 c κs = search needs
 returns : tie.Need-returns
 returns c =
     let s = c .before .before .before .before .before .before .before .before .before .before in
-    let u = rw (c .before .before .before .before .before .a .given .1) at (c .before .before .before .before .before .before .before .expression .ensures) in
+    let u = rw (c .before .before .before .before .before .a .given .1) at (c .before .before .before .before .before .before .before .parse .ensures) in
     c .refused2 .ensures (s .args .expr .now) (s .args .table .now) ∙ rw (whole-rest u (c .before .if1 .taken))
 
 outside-requires : tie.Need-outside-requires
@@ -40,20 +39,20 @@ judge-requires c κs = search needs
 returns-2 : tie.Need-returns-2
 returns-2 c =
     let s = c .before .before .before .before .before .before in
-    let u = rw (c .before .enum-told .given .1) at (c .before .before .before .expression .ensures) in
+    let u = rw (c .before .enum-told .given .1) at (c .before .before .before .parse .ensures) in
     c .refused .ensures (s .args .expr .now) (s .args .table .now) ∙ rw (whole-bad u)
 
 returns-3 : tie.Need-returns-3
 returns-3 c =
     let s = c .before .before .before .before .before .before .before .before .before .before .before in
-    let u = rw (c .before .before .before .before .before .before .a .given .1) at (c .before .before .before .before .before .before .before .before .expression .ensures) in
+    let u = rw (c .before .before .before .before .before .before .a .given .1) at (c .before .before .before .before .before .before .before .before .parse .ensures) in
     c .judge .ensures (s .args .expr .now) (s .args .table .now) ∙ rw (c .before .outside .ensures, whole-made u (c .before .before .if1 .left))
 
 pub conclude-spec : {M : Type 1} → statement M
 conclude-spec =
     tie.close
     (tie.spec
-    expression-requires
+    parse-requires
     enum-told
     refused-requires
     enum-known-a

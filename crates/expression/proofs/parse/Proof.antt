@@ -1,0 +1,108 @@
+-- The order that the descent wrote leaves what the grammar's parser makes of the tokens; there is room for its operands.
+use Prim.Native.Nat.{ℕ, _≤_, _+_}
+use native.Mathlib.Omega.{arith}
+use mathlib.Core.Path.{_≡_}
+use mathlib.Core.List.{List}
+use lib.ListN.{length, take}
+use lib.Seq.{length-take-le}
+use borrow.Author.Needs.{needs}
+use Rattle.grammar.specs.Grammar.{expression}
+use Rattle.grammar.specs.Parse.{got, find, Yields}
+use Rattle.syntax.specs.Order.{OrderTo}
+use Rattle.value.specs.declared.Known.{Known}
+use Rattle.value.specs.Places.{known}
+use Rattle.expression.specs.Meaning.{codeOf, meaning}
+use Rattle.expression.specs.Parsing.{tokenAt}
+use Rattle.expression.specs.Postfix.{Input, Foldable, Folds}
+use Rattle.expression.proofs.Made.{faulted, valued, come}
+use Rattle.expression.proofs.parse.Statement.{statement}
+use Rattle.expression.proofs.parse.Tie as tie
+
+abbrev input : tie.Start → Input
+input s =
+    record {
+      e = s .args .expr .now;
+      t = s .args .table .now;
+      codes = s .args .codes .now;
+      starts = s .args .starts .now;
+      lens = s .args .lens .now;
+      values = s .args .values .now;
+      n = s .args .n .0;
+    }
+
+-- an order can be folded with room for half its entries
+foldable : (s : tie.Start) (most m j : ℕ) (o : List ℕ) → OrderTo (input s .codes) (input s .n) m j o → m ≤ most + most → Foldable (input s) most o m
+foldable s most m j o w room =
+    let l = length-take-le m o (omega (arith, w .most, w .long)) in
+    let v = valued (input s) most (s .pre .few) (take m o) j (omega (arith, l, w .most)) (omega (arith, l)) (w .made) in
+    record { sound = s .pre .sound; few = s .pre .few; all = w .most; long = w .long; value = v .0; gives = v .1 }
+
+-- what it leaves is what the parser makes
+folded : (s : tie.Start) (most m j : ℕ) (o : List ℕ) → OrderTo (input s .codes) (input s .n) m j o → m ≤ most + most → (z : Known) → Folds (input s) most o m z
+    → Yields codeOf (meaning (input s .e) (input s .t)) (tokenAt (input s .codes) (input s .starts) (input s .lens) (input s .values) (input s .n)) (input s .n) (find expression 0) (got (known (input s .e) (input s .t) z) j)
+folded s most m j o w room z f =
+    let l = length-take-le m o (omega (arith, w .most, w .long)) in
+    come (input s) most (s .pre .few) (take m o) j (omega (arith, l, w .most)) (omega (arith, l)) (w .made) z f
+
+write-requires : tie.Need-write-requires
+write-requires c κs = search needs
+
+enum-known-at : tie.Need-enum-known-at
+enum-known-at c = search needs
+
+enum-known-filled : tie.Need-enum-known-filled
+enum-known-filled c = search needs
+
+slice-aggregate-fold : tie.Need-slice-aggregate-fold
+slice-aggregate-fold c = search needs
+
+fold-requires : tie.Need-fold-requires
+fold-requires c κs =
+    let start = c .before .before .before .before .before .before .before .before .before .before in
+    let write = c .before .before .before .before .before .before .write in
+    let written = rw (c .before .before .before .before .filled .given .1) at (write .ensures) in
+    foldable start 16 _ _ (write .last .0) written (omega (arith, c .before .before .if1 .taken))
+
+returns : tie.Need-returns
+returns c =
+    let start = c .before .before .before .before .before .before .before .before .before .before .before .before in
+    let write = c .before .before .before .before .before .before .before .before .write in
+    let written = rw (c .before .before .before .before .before .before .filled .given .1) at (write .ensures) in
+    folded start 16 _ _ (write .last .0) written (omega (arith, c .before .before .before .before .if1 .taken)) (c .before .fold .result) (c .before .fold .ensures)
+
+slice-aggregate-fold-2 : tie.Need-slice-aggregate-fold-2
+slice-aggregate-fold-2 c = search needs
+
+fold-requires-2 : tie.Need-fold-requires-2
+fold-requires-2 c κs =
+    let start = c .before .before .before .before .before .before .before .before .before .before in
+    let write = c .before .before .before .before .before .before .write in
+    let written = rw (c .before .before .before .before .filled .given .1) at (write .ensures) in
+    foldable start 100 _ _ (write .last .0) written (omega (arith, written .most))
+
+returns-2 : tie.Need-returns-2
+returns-2 c =
+    let start = c .before .before .before .before .before .before .before in
+    faulted (input start) 100 (start .pre .few) _ (rw (c .before .at .given .1) at (c .before .before .before .write .ensures))
+
+returns-3 : tie.Need-returns-3
+returns-3 c =
+    let start = c .before .before .before .before .before .before .before .before .before .before .before .before in
+    let write = c .before .before .before .before .before .before .before .before .write in
+    let written = rw (c .before .before .before .before .before .before .filled .given .1) at (write .ensures) in
+    folded start 100 _ _ (write .last .0) written (omega (arith, written .most)) (c .before .fold2 .result) (c .before .fold2 .ensures)
+
+pub parse-spec : {M : Type 1} → statement M
+parse-spec =
+    tie.close
+    (tie.spec
+    write-requires
+    enum-known-at
+    enum-known-filled
+    slice-aggregate-fold
+    fold-requires
+    returns
+    slice-aggregate-fold-2
+    fold-requires-2
+    returns-2
+    returns-3)

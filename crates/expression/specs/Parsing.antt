@@ -1,0 +1,39 @@
+-- The expression that the scanner's arrays derive, as contracts between layers have it. No promise about an expression cites this.
+use Prim.Native.Nat.{ℕ, _≤_}
+use mathlib.Core.Path.{_≡_}
+use mathlib.Core.Bool.{true}
+use mathlib.Core.List.{List}
+use lib.ListN.{getD}
+use lib.Dec.{ltb}
+use Rattle.text.specs.Bytes.{pick}
+use Rattle.settings.specs.Table.{wellFormed}
+use Rattle.token.specs.Tokens.{Token}
+use Rattle.grammar.specs.Grammar.{expression}
+use Rattle.grammar.specs.Parse.{Result, bad, got, find, Yields}
+use Rattle.syntax.specs.Order.{codeAt}
+use Rattle.value.specs.Attributes.{Attributes}
+use Rattle.value.specs.Places.{known}
+use Rattle.expression.specs.Meaning.{codeOf, meaning}
+use Rattle.expression.specs.declared.Parsed.{Parsed}
+use Rattle.expression.specs.declared.Parsed.the-variants.{Bad, Got}
+
+-- an entry of token i, of n tokens; 0 past them
+abbrev pub entryAt : List ℕ → ℕ → ℕ → ℕ
+entryAt xs n i = pick (ltb i n) (getD xs i 0) 0
+
+-- token i in the four arrays
+abbrev pub tokenAt : (cs ss ls vs : List ℕ) → ℕ → ℕ → Token
+tokenAt cs ss ls vs n i = record { code = codeAt cs n i; start = entryAt ss n i; len = entryAt ls n i; value = entryAt vs n i }
+
+abbrev pub found : (e t : List ℕ) → Parsed → Result Attributes
+found e t (Bad i) = bad (i .0)
+found e t (Got a j) = got (known e t a) (j .0)
+
+-- what has to be answered: what the grammar's parser makes of the tokens from the first one on
+abbrev pub Parses : (e t cs ss ls vs : List ℕ) (n : ℕ) → Parsed → Type 0
+Parses e t cs ss ls vs n r = Yields codeOf (meaning e t) (tokenAt cs ss ls vs n) n (find expression 0) (found e t r)
+
+-- what may be assumed: the table is well formed, and there are at most 200 tokens
+pub record Ready (t : List ℕ) (n : ℕ) : Type 0 where
+  pub sound : wellFormed t ≡ true
+  pub few : n ≤ 200

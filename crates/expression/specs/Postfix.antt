@@ -1,0 +1,101 @@
+-- The entries of a postfix order, one after the other, over the operands that wait for their operator. No promise cites this.
+use Prim.Native.Nat.{ℕ, _+_, _-_, _≤_, _<_}
+use mathlib.Core.Path.{_≡_}
+use mathlib.Core.Bool.{true}
+use mathlib.Core.List.{List, [], _∷_}
+use lib.ListN.{length, take}
+use lib.Dec.{eqb, leb}
+use Rattle.text.specs.Bytes.{pick}
+use Rattle.lexeme.specs.Codes.{QUESTION}
+use Rattle.settings.specs.Table.{wellFormed}
+use Rattle.grammar.specs.Grammar.{isPrimary}
+use Rattle.value.specs.Attributes.{Attributes, primaryOf, unaryFrom, binaryFrom, choiceFrom}
+use Rattle.value.specs.declared.Known.{Known}
+use Rattle.value.specs.Places.{known}
+use Rattle.syntax.specs.Order.{codeAt, UNARY, SKIP}
+use Rattle.expression.specs.Parsing.{tokenAt}
+
+-- what an order is worked out over: expression and table, and the first n tokens of the arrays
+pub record Input : Type 0 where
+  pub e : List ℕ
+  pub t : List ℕ
+  pub codes : List ℕ
+  pub starts : List ℕ
+  pub lens : List ℕ
+  pub values : List ℕ
+  pub n : ℕ
+
+abbrev pub codeIn : Input → ℕ → ℕ
+codeIn i x = codeAt (i .codes) (i .n) x
+
+-- what is known of the operand at a token
+abbrev pub primaryIn : Input → ℕ → Attributes
+primaryIn i x = primaryOf (i .e) (i .t) (tokenAt (i .codes) (i .starts) (i .lens) (i .values) (i .n) x)
+
+-- what an entry stands for
+pub data Entry : Type 0 where
+  operand : Entry
+  unary : Entry
+  binary : Entry
+  choice : Entry
+  skip : Entry
+
+abbrev pub entryOf : Input → ℕ → Entry
+entryOf i x =
+    pick (leb UNARY x) unary
+    (pick (isPrimary (codeIn i x)) operand
+    (pick (eqb x SKIP) skip
+    (pick (eqb (codeIn i x) QUESTION) choice binary)))
+
+-- the operands that an operator finds, the latest first, and what goes on with its result in their place
+pub record OnOne (o : ℕ) (s : List Attributes) (go : List Attributes → Type 0) : Type 0 where
+  pub a : Attributes
+  pub rest : List Attributes
+  pub shape : s ≡ a ∷ rest
+  pub few : a .count ≤ 200
+  pub next : go (unaryFrom o a ∷ rest)
+
+pub record OnTwo (o : ℕ) (s : List Attributes) (go : List Attributes → Type 0) : Type 0 where
+  pub a : Attributes
+  pub b : Attributes
+  pub rest : List Attributes
+  pub shape : s ≡ b ∷ a ∷ rest
+  pub few : a .count + b .count ≤ 400
+  pub next : go (binaryFrom o a b ∷ rest)
+
+pub record OnThree (s : List Attributes) (go : List Attributes → Type 0) : Type 0 where
+  pub c : Attributes
+  pub a : Attributes
+  pub b : Attributes
+  pub rest : List Attributes
+  pub shape : s ≡ b ∷ a ∷ c ∷ rest
+  pub few : c .count + a .count + b .count ≤ 600
+  pub next : go (choiceFrom c a b ∷ rest)
+
+-- with room for `most` operands
+module _ (i : Input) (most : ℕ) where
+  -- what is done for an entry x, with the operands s waiting
+  abbrev pub Does : Entry → (x : ℕ) (s : List Attributes) → (List Attributes → Type 0) → Type 0
+  Does operand x s go = (length s < most) × go (primaryIn i x ∷ s)
+  Does unary x s go = OnOne (codeIn i (x - UNARY)) s go
+  Does binary x s go = OnTwo (codeIn i x) s go
+  Does choice x s go = OnThree s go
+  Does skip x s go = go s
+
+  -- with the operands s waiting, the entries leave v alone
+  abbrev pub Gives : List Attributes → List ℕ → Attributes → Type 0
+  Gives s [] v = s ≡ v ∷ []
+  Gives s (x ∷ k) v = Does (entryOf i x) x s (λ u. Gives u k v)
+
+  -- what may be assumed of the first m entries of an order
+  pub record Foldable (o : List ℕ) (m : ℕ) : Type 0 where
+    pub sound : wellFormed (i .t) ≡ true
+    pub few : i .n ≤ 200
+    pub all : m ≤ 200
+    pub long : length o ≡ 200
+    pub value : Attributes
+    pub gives : Gives [] (take m o) value
+
+  -- what has to be answered: what they leave
+  abbrev pub Folds : (o : List ℕ) (m : ℕ) → Known → Type 0
+  Folds o m z = (v : Attributes) → Gives [] (take m o) v → known (i .e) (i .t) z ≡ v

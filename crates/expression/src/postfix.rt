@@ -1,0 +1,63 @@
+// Works a postfix order out.
+use crate::tokens;
+use lexeme::codes;
+use operands::stack;
+use syntax::tokens as entries;
+use units::TokenNumber;
+use value::Known;
+use value::attributes;
+ghost use mathlib.Core.Path.{_≡_};
+ghost use lib.ListN.{length};
+ghost use Rattle.expression.specs.Postfix.{Foldable, Folds};
+
+// An entry as a number.
+fn wide(x: u16) -> usize
+    ensures { λ r. ⌜ r ≡ x ⌝ }
+{
+    x as usize
+}
+
+// What the entries of an order leave, with the operands that wait for their operator in memory that is lent.
+pub fn fold<'a>(
+    waiting: &mut [[usize; 7]],
+    expr: &'a [u8],
+    table: &'a [u8],
+    codes: &'a [u8; 200],
+    starts: &'a [u16; 200],
+    lens: &'a [u16; 200],
+    values: &'a [u64; 200],
+    n: TokenNumber,
+    order: &'a [u16; 200],
+    filled: usize,
+) -> Known
+    requires { ⌜ Foldable (record { e = now expr; t = now table; codes = now codes; starts = now starts; lens = now lens; values = now values; n = n .0 }) (length (now waiting)) (now order) filled ⌝ }
+    ensures { λ r. ⌜ Folds (record { e = now (expr .entry); t = now (table .entry); codes = now (codes .entry); starts = now (starts .entry); lens = now (lens .entry); values = now (values .entry); n = n .0 }) (length (now (waiting .entry))) (now (order .entry)) filled r ⌝ }
+{
+    let mut top: usize = 0;
+    let mut p: usize = 0;
+    while p < filled {
+        let e = order[p];
+        let x = wide(e);
+        p += 1;
+        if entries::UNARY <= x {
+            let o = entries::code_at(codes, n, TokenNumber(x - entries::UNARY));
+            stack::unary(waiting, top - 1, o);
+        } else {
+            let o = entries::code_at(codes, n, TokenNumber(x));
+            if entries::is_primary(o) {
+                let k = tokens::token_at(codes, starts, lens, values, n, TokenNumber(x));
+                stack::store(waiting, top, attributes::of_primary(expr, table, k));
+                top += 1;
+            } else if e != entries::SKIP {
+                if o == codes::QUESTION {
+                    stack::choice(waiting, top - 3);
+                    top -= 2;
+                } else {
+                    stack::binary(waiting, top - 2, expr, table, o);
+                    top -= 1;
+                }
+            }
+        }
+    }
+    stack::load(waiting, 0)
+}

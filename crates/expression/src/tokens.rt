@@ -1,0 +1,27 @@
+// A token in the scanner's arrays.
+use units::TokenNumber;
+use value::attributes::Lexical;
+ghost use mathlib.Core.Path.{_≡_};
+ghost use Prim.Native.Nat.{_≤_, _<_};
+ghost use Rattle.value.specs.Places.{tokenOf};
+ghost use Rattle.expression.specs.Parsing.{tokenAt};
+
+pub fn token_at(
+    codes: &[u8; 200],
+    starts: &[u16; 200],
+    lens: &[u16; 200],
+    values: &[u64; 200],
+    n: TokenNumber,
+    at: TokenNumber,
+) -> Lexical
+    requires { ⌜ (n .0 ≤ 200) × (at .0 < n .0) ⌝ }
+    ensures { λ r. ⌜ tokenOf r ≡ tokenAt (now (codes .entry)) (now (starts .entry)) (now (lens .entry)) (now (values .entry)) (n .0) (at .0) ⌝ }
+{
+    let i = at.0;
+    Lexical {
+        code: codes[i],
+        start: starts[i],
+        len: lens[i],
+        value: values[i],
+    }
+}

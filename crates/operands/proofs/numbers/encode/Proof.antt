@@ -1,0 +1,29 @@
+-- Each number stands for its part.
+use borrow.Author.Needs.{needs}
+use Rattle.operands.proofs.numbers.encode.Statement.{statement}
+use Rattle.operands.proofs.numbers.encode.Tie as tie
+
+shape-of-requires : tie.Need-shape-of-requires
+shape-of-requires c κs = search needs
+
+number-of-kind-requires : tie.Need-number-of-kind-requires
+number-of-kind-requires c κs = search needs
+
+number-of-flag-requires : tie.Need-number-of-flag-requires
+number-of-flag-requires c κs = search needs
+
+number-of-flag-requires-2 : tie.Need-number-of-flag-requires-2
+number-of-flag-requires-2 c κs = search needs
+
+returns : tie.Need-returns
+returns c = rw (c .before .before .number-of-kind .ensures, c .before .number-of-flag .ensures, ← c .before .before .before .shape-of .ensures, c .number-of-flag2 .ensures)
+
+pub encode-spec : {M : Type 1} → statement M
+encode-spec =
+    tie.close
+    (tie.spec
+    shape-of-requires
+    number-of-kind-requires
+    number-of-flag-requires
+    number-of-flag-requires-2
+    returns)

@@ -1,0 +1,54 @@
+-- The operands are taken, and what the operator makes of them stored.
+use native.Mathlib.Omega.{arith}
+use mathlib.Core.Path.{ap, _∙_}
+use Rattle.value.specs.Places.{known}
+use Rattle.value.specs.Attributes.{binaryFrom}
+use Rattle.operands.specs.Stack.{operandAt}
+use Rattle.operands.proofs.Piles.{instead}
+use borrow.Author.Needs.{needs}
+use Rattle.operands.proofs.stack.binary.Statement.{statement}
+use Rattle.operands.proofs.stack.binary.Tie as tie
+
+load-requires : tie.Need-load-requires
+load-requires c κs = search needs
+
+add-load : tie.Need-add-load
+add-load c = search needs
+
+load-requires-2 : tie.Need-load-requires-2
+load-requires-2 c κs = search needs
+
+of-binary-requires : tie.Need-of-binary-requires
+of-binary-requires c κs =
+    let start = c .before .before .before .before .before .before .before in
+    omega (arith, start .pre .1, ap (λ k. k .count) (c .before .load2 .ensures), ap (λ k. k .count) (c .before .before .before .load .ensures))
+
+store-requires : tie.Need-store-requires
+store-requires c κs = search needs
+
+same-length : tie.Need-same-length
+same-length c = search needs
+
+returns : tie.Need-returns
+returns c =
+    let start = c .before .before .before .before .before .before .before .before .before .before in
+    let first = c .before .before .before .before .before .before .load .ensures in
+    let second = c .before .before .before .before .load2 .ensures in
+    let e = start .args .expr .now in
+    let t = start .args .table .now in
+    let o = start .args .o in
+    let left = ap (λ a. binaryFrom o (known e t a) (known e t (c .before .before .before .before .load2 .result))) first in
+    let right = ap (λ b. binaryFrom o (operandAt e t (start .args .waiting .now) (start .args .at)) (known e t b)) second in
+    instead (c .before .before .of-binary .ensures ∙ left ∙ right) (c .before .store .ensures e t)
+
+pub binary-spec : {M : Type 1} → statement M
+binary-spec =
+    tie.close
+    (tie.spec
+    load-requires
+    add-load
+    load-requires-2
+    of-binary-requires
+    store-requires
+    same-length
+    returns)

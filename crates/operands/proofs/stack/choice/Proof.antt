@@ -1,0 +1,65 @@
+-- The operands are taken, and what the operator makes of them stored.
+use native.Mathlib.Omega.{arith}
+use mathlib.Core.Path.{ap, _∙_}
+use Rattle.value.specs.Places.{known}
+use Rattle.value.specs.Attributes.{choiceFrom}
+use Prim.Native.Nat.{_+_}
+use Rattle.operands.specs.Stack.{operandAt}
+use Rattle.operands.proofs.Piles.{instead}
+use borrow.Author.Needs.{needs}
+use Rattle.operands.proofs.stack.choice.Statement.{statement}
+use Rattle.operands.proofs.stack.choice.Tie as tie
+
+load-requires : tie.Need-load-requires
+load-requires c κs = search needs
+
+add-load : tie.Need-add-load
+add-load c = search needs
+
+load-requires-2 : tie.Need-load-requires-2
+load-requires-2 c κs = search needs
+
+add-load-2 : tie.Need-add-load-2
+add-load-2 c = search needs
+
+load-requires-3 : tie.Need-load-requires-3
+load-requires-3 c κs = search needs
+
+of-choice-requires : tie.Need-of-choice-requires
+of-choice-requires c κs =
+    let start = c .before .before .before .before .before .before .before in
+    let test = ap (λ k. k .count) (c .before .before .before .before .before .load .ensures) in
+    omega (arith, start .pre .1, test, ap (λ k. k .count) (c .before .before .before .load2 .ensures), ap (λ k. k .count) (c .before .load3 .ensures))
+
+store-requires : tie.Need-store-requires
+store-requires c κs = search needs
+
+same-length : tie.Need-same-length
+same-length c = search needs
+
+returns : tie.Need-returns
+returns c = λ e t.
+    let start = c .before .before .before .before .before .before .before .before .before .before in
+    let test = c .before .before .before .before .before .before .before .before .load in
+    let first = c .before .before .before .before .before .before .load2 in
+    let second = c .before .before .before .before .load3 in
+    let test-at = operandAt e t (start .args .waiting .now) (start .args .at) in
+    let first-at = operandAt e t (start .args .waiting .now) (start .args .at + 1) in
+    let by-test = ap (λ x. choiceFrom (known e t x) (known e t (first .result)) (known e t (second .result))) (test .ensures) in
+    let by-first = ap (λ x. choiceFrom test-at (known e t x) (known e t (second .result))) (first .ensures) in
+    let by-second = ap (λ x. choiceFrom test-at first-at (known e t x)) (second .ensures) in
+    instead (c .before .before .of-choice .ensures e t ∙ by-test ∙ by-first ∙ by-second) (c .before .store .ensures e t)
+
+pub choice-spec : {M : Type 1} → statement M
+choice-spec =
+    tie.close
+    (tie.spec
+    load-requires
+    add-load
+    load-requires-2
+    add-load-2
+    load-requires-3
+    of-choice-requires
+    store-requires
+    same-length
+    returns)

@@ -1,0 +1,33 @@
+-- The operand is taken, and what the operator makes of it stored.
+use native.Mathlib.Omega.{arith}
+use mathlib.Core.Path.{ap, _∙_}
+use Rattle.value.specs.Places.{known}
+use Rattle.value.specs.Attributes.{unaryFrom}
+use Rattle.operands.proofs.Piles.{instead}
+use borrow.Author.Needs.{needs}
+use Rattle.operands.proofs.stack.unary.Statement.{statement}
+use Rattle.operands.proofs.stack.unary.Tie as tie
+
+load-requires : tie.Need-load-requires
+load-requires c κs = search needs
+
+of-unary-requires : tie.Need-of-unary-requires
+of-unary-requires c κs =
+    let start = c .before .before .before in
+    omega (arith, start .pre .1, ap (λ k. k .count) (c .before .load .ensures))
+
+store-requires : tie.Need-store-requires
+store-requires c κs = search needs
+
+same-length : tie.Need-same-length
+same-length c = search needs
+
+returns : tie.Need-returns
+returns c =
+    let taken = c .before .before .before .before .load .ensures in
+    let o = c .before .before .before .before .before .before .args .o in
+    λ e t. instead (c .before .before .of-unary .ensures e t ∙ ap (λ a. unaryFrom o (known e t a)) taken) (c .before .store .ensures e t)
+
+pub unary-spec : {M : Type 1} → statement M
+unary-spec =
+    tie.close (tie.spec load-requires of-unary-requires store-requires same-length returns)

@@ -1,0 +1,37 @@
+-- An operand as seven numbers. A contract between layers cites this, no promise does.
+use Prim.Native.Nat.{ℕ}
+use mathlib.Core.List.{List}
+use lib.ListN.{getD}
+use lib.Dec.{eqb, ltb}
+use Rattle.text.specs.Bytes.{pick}
+use Rattle.value.specs.declared.Kind.{Kind}
+use Rattle.value.specs.declared.Kind.the-variants.{Number as NumberKind, String as StringKind, Wide as WideKind, Clash}
+use Rattle.value.specs.declared.Place.{Place}
+use Rattle.value.specs.declared.Held.{Held}
+use Rattle.value.specs.declared.Held.the-variants.{Number, String, Wide, Fault}
+use Rattle.value.specs.declared.Known.{Known}
+use Rattle.operands.specs.declared.numbers.Shaped.{Shaped}
+
+abbrev pub kindIn : ℕ → Kind
+kindIn n = pick (eqb n 0) NumberKind (pick (eqb n 1) StringKind (pick (eqb n 2) WideKind Clash))
+
+-- where a string stands
+abbrev pub placeIn : Shaped → Place
+placeIn s = record { tabled = s .tabled; start = record { 0 = s .first }; len = s .len }
+
+-- a value by its shape: 0 a number, 1 a string, 2 a wide string, any other a fault
+abbrev pub valueIn : Shaped → Held
+valueIn s =
+    pick (eqb (s .shape) 0) (Number (s .first))
+    (pick (eqb (s .shape) 1) (String (placeIn s))
+    (pick (eqb (s .shape) 2) (Wide (placeIn s)) (Fault (pick (ltb (s .first) 256) (s .first) 0))))
+
+-- kind, shape, number or start, length, whether in the table, count of operators, whether a PCD is missing
+abbrev pub operandIn : List ℕ → Known
+operandIn w =
+    record {
+      kind = kindIn (getD w 0 0);
+      value = valueIn (record { shape = getD w 1 0; first = getD w 2 0; len = getD w 3 0; tabled = eqb (getD w 4 0) 1 });
+      count = getD w 5 0;
+      missing = eqb (getD w 6 0) 1;
+    }

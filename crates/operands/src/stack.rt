@@ -1,0 +1,54 @@
+// The stack of operands. Each operator takes its operands, the first of them at `at`, and leaves its result in their place.
+use crate::numbers;
+use value::Known;
+use value::attributes;
+ghost use mathlib.Core.Path.{_≡_};
+ghost use mathlib.Core.List.{List, []};
+ghost use Prim.Native.Nat.{ℕ, _+_, _≤_, _<_};
+ghost use lib.ListN.{length, getD};
+ghost use Rattle.value.specs.Attributes.{unaryFrom, binaryFrom, choiceFrom};
+ghost use Rattle.value.specs.Places.{known};
+ghost use Rattle.operands.specs.Numbers.{operandIn};
+ghost use Rattle.operands.specs.Stack.{countAt, operandAt, Leaves};
+
+// The operand at a place.
+pub fn load(waiting: &[[usize; 7]], at: usize) -> Known
+    requires { ⌜ at < length (now waiting) ⌝ }
+    ensures { λ r. ⌜ r ≡ operandIn (getD (now (waiting .entry)) at []) ⌝ }
+{
+    numbers::decode(waiting[at])
+}
+
+pub fn store(waiting: &mut [[usize; 7]], at: usize, a: Known)
+    requires { ⌜ at < length (now waiting) ⌝ }
+    ensures { λ r. ⌜ ((e t : List ℕ) → Leaves e t (now (waiting .entry)) at (known e t a) (now (waiting .exit))) ⌝ }
+{
+    waiting[at] = numbers::encode(a);
+}
+
+pub fn unary(waiting: &mut [[usize; 7]], at: usize, o: u8)
+    requires { ⌜ (at < length (now waiting)) × (countAt (now waiting) at ≤ 200) ⌝ }
+    ensures { λ r. ⌜ ((e t : List ℕ) → Leaves e t (now (waiting .entry)) at (unaryFrom o (operandAt e t (now (waiting .entry)) at)) (now (waiting .exit))) ⌝ }
+{
+    let a = load(waiting, at);
+    store(waiting, at, attributes::of_unary(o, a));
+}
+
+pub fn binary<'a>(waiting: &mut [[usize; 7]], at: usize, expr: &'a [u8], table: &'a [u8], o: u8)
+    requires { ⌜ (at + 1 < length (now waiting)) × (countAt (now waiting) at + countAt (now waiting) (at + 1) ≤ 400) ⌝ }
+    ensures { λ r. ⌜ Leaves (now (expr .entry)) (now (table .entry)) (now (waiting .entry)) at (binaryFrom o (operandAt (now (expr .entry)) (now (table .entry)) (now (waiting .entry)) at) (operandAt (now (expr .entry)) (now (table .entry)) (now (waiting .entry)) (at + 1))) (now (waiting .exit)) ⌝ }
+{
+    let a = load(waiting, at);
+    let b = load(waiting, at + 1);
+    store(waiting, at, attributes::of_binary(expr, table, o, a, b));
+}
+
+pub fn choice(waiting: &mut [[usize; 7]], at: usize)
+    requires { ⌜ (at + 2 < length (now waiting)) × (countAt (now waiting) at + countAt (now waiting) (at + 1) + countAt (now waiting) (at + 2) ≤ 600) ⌝ }
+    ensures { λ r. ⌜ ((e t : List ℕ) → Leaves e t (now (waiting .entry)) at (choiceFrom (operandAt e t (now (waiting .entry)) at) (operandAt e t (now (waiting .entry)) (at + 1)) (operandAt e t (now (waiting .entry)) (at + 2))) (now (waiting .exit))) ⌝ }
+{
+    let c = load(waiting, at);
+    let a = load(waiting, at + 1);
+    let b = load(waiting, at + 2);
+    store(waiting, at, attributes::of_choice(c, a, b));
+}

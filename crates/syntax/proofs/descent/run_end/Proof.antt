@@ -1,0 +1,64 @@
+-- The loop's invariant: the tokens that were passed are a run. The measure is how many tokens are left.
+use Prim.Native.Nat.{_-_}
+use native.Mathlib.Omega.{arith}
+use mathlib.Core.Path.{_≡_, sym, ap, _∙_}
+use mathlib.Core.Bool.{true}
+use borrow.Author.Needs.{needs}
+use Rattle.grammar.specs.Grammar.{isUnary}
+use Rattle.grammar.proofs.Inside.{unary-inside}
+use Rattle.syntax.specs.Order.{codeAt}
+use Rattle.syntax.specs.Descent.{Run}
+use Rattle.syntax.proofs.Orders.{ended}
+use Rattle.syntax.proofs.Runs.{empty, longer}
+use Rattle.syntax.proofs.descent.run_end.Statement.{statement}
+use Rattle.syntax.proofs.descent.run_end.Tie as tie
+
+abbrev Inv-loop : tie.InvT-loop
+Inv-loop codes n j₀ j = Run codes (n .0) j₀ j
+
+abbrev μ-loop : tie.MeasureT-loop
+μ-loop codes n j₀ j = n .0 - j
+
+loop-holds : tie.Need-loop-holds Inv-loop μ-loop
+loop-holds c = empty (c .args .codes .now) (c .args .n .0) (c .args .i .0) (c .pre .1)
+
+code-at-requires : tie.Need-code-at-requires Inv-loop μ-loop
+code-at-requires c κs = search needs
+
+is-unary-requires : tie.Need-is-unary-requires Inv-loop μ-loop
+is-unary-requires c κs = search needs
+
+add-j : tie.Need-add-j Inv-loop μ-loop
+add-j c =
+    let r = c .before .before .before .loop .inv in
+    omega (arith, r .to, c .before .before .before .before .pre .0)
+
+sign : (c : tie.Then1 Inv-loop μ-loop) → isUnary (codeAt (c .before .before .before .before .args .codes .now) (c .before .before .before .before .args .n .0) (c .before .before .before .loop .j)) ≡ true
+sign c = ap isUnary (sym (c .before .before .code-at .ensures)) ∙ sym (c .before .is-unary .ensures) ∙ c .if1 .taken
+
+loop-less : tie.Need-loop-less Inv-loop μ-loop
+loop-less c =
+    let s = c .before .before .before .before in
+    omega (arith, unary-inside (ended (s .args .codes .now) (s .args .n .0)) (c .before .before .before .loop .j) (sign c))
+
+loop-again : tie.Need-loop-again Inv-loop μ-loop
+loop-again c =
+    let s = c .before .before .before .before in
+    longer (s .args .codes .now) (s .args .n .0) (s .args .i .0) (c .before .before .before .loop .j) (c .before .before .before .loop .inv) (sign c)
+
+returns : tie.Need-returns Inv-loop μ-loop
+returns c = (c .before .before .before .loop .inv, ap isUnary (sym (c .before .before .code-at .ensures)) ∙ sym (c .before .is-unary .ensures) ∙ c .if1 .left)
+
+pub run-end-spec : {M : Type 1} → statement M
+run-end-spec =
+    tie.close
+    (tie.spec
+    Inv-loop
+    μ-loop
+    loop-holds
+    code-at-requires
+    is-unary-requires
+    add-j
+    loop-less
+    loop-again
+    returns)

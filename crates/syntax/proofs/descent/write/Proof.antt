@@ -1,0 +1,28 @@
+-- The whole expression from token 0 on, with no entry before it. No more entries were written than tokens passed.
+use Prim.Native.Nat.{_≤_}
+use native.Mathlib.Omega.{arith}
+use borrow.Author.Needs.{needs}
+use Rattle.grammar.proofs.Steps.{moved}
+use Rattle.syntax.proofs.Orders.{ended}
+use Rattle.syntax.proofs.descent.write.Statement.{statement}
+use Rattle.syntax.proofs.descent.write.Tie as tie
+
+whole-requires : tie.Need-whole-requires
+whole-requires c κs = search needs
+
+returns : tie.Need-returns
+returns c = c .before .whole .ensures .wrong (c .if1 .taken)
+
+returns-2 : tie.Need-returns-2
+returns-2 c =
+    let start = c .before .before .before .before in
+    let found = c .before .whole .ensures .right (c .if1 .left) in
+    let passed = moved (ended (start .args .codes .now) (start .args .n .0)) (found .made) tt in
+    record {
+      made = rw (← found .held) at (found .made);
+      most = omega (arith, found .most, passed, start .pre .0);
+      long = found .long;
+    }
+
+pub write-spec : {M : Type 1} → statement M
+write-spec = tie.close (tie.spec whole-requires returns returns-2)

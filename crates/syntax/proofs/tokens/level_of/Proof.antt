@@ -1,0 +1,22 @@
+-- The table lists the levels; past it stands no binary operator.
+use native.Mathlib.Omega.{arith}
+use mathlib.Core.Path.{refl}
+use Rattle.text.proofs.Spans.{same-over, tabled}
+use Rattle.grammar.specs.Grammar.{levelOf}
+use borrow.Author.Needs.{needs}
+use Rattle.syntax.proofs.tokens.level_of.Statement.{statement}
+use Rattle.syntax.proofs.tokens.level_of.Tie as tie
+
+array-read-result : tie.Need-array-read-result
+array-read-result c = search needs
+
+returns : tie.Need-returns
+unfolding levelOf
+returns c = tabled levelOf 36 (c .before .args .c) 0 (omega arith)
+
+returns-2 : tie.Need-returns-2
+unfolding levelOf
+returns-2 c = same-over levelOf 99 36 220 refl (c .before .args .c) (omega arith) (omega arith)
+
+pub level-of-spec : {M : Type 1} → statement M
+level-of-spec = tie.close (tie.spec array-read-result returns returns-2)

@@ -1,0 +1,50 @@
+-- The order in which the operands and operators of an expression are used: postfix, an operator after its operands. The contract between
+-- the descent and what works the order out; no promise about an expression cites this.
+use Prim.Native.Nat.{ℕ, _+_, _≤_}
+use mathlib.Core.Path.{_≡_}
+use mathlib.Core.List.{List, [], _∷_, _++_}
+use lib.ListN.{length, getD, take}
+use lib.Dec.{ltb}
+use Rattle.text.specs.Bytes.{pick}
+use Rattle.grammar.specs.Grammar.{expression}
+use Rattle.grammar.specs.Fold.{Algebra}
+use Rattle.grammar.specs.Parse.{Goal, Result, bad, got, find, Yields, END}
+use Rattle.syntax.specs.declared.descent.Written.{Written}
+use Rattle.syntax.specs.declared.descent.Written.the-variants.{Bad, Order}
+
+-- the code of token i, of n tokens; past them the code of the end
+abbrev pub codeAt : List ℕ → ℕ → ℕ → ℕ
+codeAt cs n i = pick (ltb i n) (getD cs i 0) END
+
+-- An entry of the order is the number of a token; that of a unary operator has UNARY added. A choice has a second entry, SKIP, for which
+-- nothing is done, so that at most every other entry adds an operand.
+abbrev pub UNARY : ℕ
+UNARY = 256
+
+abbrev pub SKIP : ℕ
+SKIP = 255
+
+-- the entries of each form, from those of its operands
+abbrev pub postfix : Algebra ℕ (List ℕ)
+postfix =
+    record {
+      leaf = λ i. i ∷ [];
+      unary = λ o a. a ++ ((UNARY + o) ∷ []);
+      binary = λ o a b. a ++ (b ++ (o ∷ []));
+      choice = λ q c a b. c ++ (a ++ (b ++ (q ∷ SKIP ∷ [])));
+    }
+
+-- what the grammar's parser makes of the tokens' numbers
+abbrev pub Ordered : (cs : List ℕ) (n : ℕ) → Goal (List ℕ) → Result (List ℕ) → Type 0
+Ordered cs n g r = Yields (codeAt cs n) postfix (λ i. i) n g r
+
+-- the first m entries of a list are the order of the expression from the first token to token j
+pub record OrderTo (cs : List ℕ) (n m j : ℕ) (o : List ℕ) : Type 0 where
+  pub made : Ordered cs n (find expression 0) (got (take m o) j)
+  pub most : m ≤ 200
+  pub long : length o ≡ 200
+
+-- what the descent has to answer, with the list as it leaves it
+abbrev pub Writes : (cs : List ℕ) (n : ℕ) → Written → List ℕ → Type 0
+Writes cs n (Bad z) o = Ordered cs n (find expression 0) (bad (z .0))
+Writes cs n (Order m j) o = OrderTo cs n m (j .0) o
