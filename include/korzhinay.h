@@ -1,9 +1,9 @@
 /* Korzhinay: the calls that C, Rust and Python can make.
  *
  * Every call is total: it answers for any bytes, and a caller has nothing to check before. What C itself asks for remains: a pointer is
- * good for the length that comes with it or that its type names. A pointer with a length of 0 is neither read nor written and may be
- * null. Lent arrays are written as each call says, and nowhere else; they must not overlap each other or what the same call reads. The
- * library keeps no state, so calls may run at the same time.
+ * good for the length that comes with it or that its type names, and there are KORZHINAY_STACK bytes of stack. A pointer with a length of
+ * 0 is neither read nor written and may be null. Lent arrays are written as each call says, and nowhere else; they must not overlap each
+ * other or what the same call reads. The library keeps no state, so calls may run at the same time.
  *
  * Refusals have numbers from 1 to 26; korzhinay_meaning, at the end, has their meanings. docs/LANGUAGE.md describes the language, with an
  * example of each refusal.
@@ -17,6 +17,12 @@
 #ifdef __cplusplus
 extern "C" {
 #endif
+
+/* No call needs more than this many bytes of stack, whatever it is given. They have to be left where the call is made: what a thread itself
+ * takes of its stack, and signal handlers, come on top. This is measured and not proved, since it depends on the frames that the compiler
+ * makes: tests/stack/ makes every call on the deepest inputs that the limits allow, in threads that have just this much for it, and fails
+ * if any is seen to use more than three quarters. */
+#define KORZHINAY_STACK 32768
 
 /* Whether a table of settings is well formed: 0, or the refusal number 1.
  * A table is 0 to 512 records of 128 bytes and nothing else, the 64 bytes of their names strictly ascending. A record:

@@ -13,13 +13,15 @@ const CALLS: usize = 1_000;
 /// Rounds of what takes long.
 const LONG_ROUNDS: usize = 5;
 
+const EQUAL: &str = "$(X) == TRUE";
+
 /// All ten operators are applied where X is 1.
 const TEN: &str = "($(X) + 2) * 3 - 1 << 2 >= 32 AND $(X) < 9 ? 6 & 3 ^ 1 : 4";
 
 pub fn time() {
     let one = settings::record("X", 1);
     for (what, text) in [
-        ("$(X) == TRUE, a table of 1 record", "$(X) == TRUE"),
+        ("$(X) == TRUE, a table of 1 record", EQUAL),
         ("ten operators, a table of 1 record", TEN),
     ] {
         check(text, &one);
@@ -39,6 +41,15 @@ pub fn time() {
         &small,
         &settings::table(),
     );
+}
+
+/// The first two, once each.
+pub fn once_equal() {
+    proved(EQUAL, &settings::record("X", 1));
+}
+
+pub fn once_ten() {
+    proved(TEN, &settings::record("X", 1));
 }
 
 fn small() -> Vec<String> {

@@ -1,5 +1,5 @@
 //! Times the proved library beside the independent Rust implementation, and the command whose path is given beside other tools, on
-//! the same inputs; release builds.
+//! the same inputs; release builds. With `--instructions FOLDER` it counts the library's instructions instead.
 
 // the command's declarations; not every call is timed
 #[allow(dead_code)]
@@ -9,6 +9,7 @@ mod evaluation;
 mod expressions;
 mod files;
 mod folder;
+mod instructions;
 mod processes;
 mod selection;
 mod settings;
@@ -16,10 +17,22 @@ mod tables;
 mod timing;
 mod tokens;
 
+use std::path::Path;
+
 fn main() {
-    let path = std::env::args().nth(1).expect("the path of the command");
+    let arguments: Vec<String> = std::env::args().skip(1).collect();
+    match arguments.iter().map(String::as_str).collect::<Vec<_>>()[..] {
+        ["--instructions", folder] => instructions::count(Path::new(folder)),
+        // what is counted, started under valgrind
+        ["--once", name] => instructions::call(name),
+        [path] => time(path),
+        _ => panic!("the path of the command, or --instructions and a folder"),
+    }
+}
+
+fn time(path: &str) {
     // Asked for now, since the processes come last, and run in another folder.
-    let command = std::fs::canonicalize(&path).unwrap_or_else(|error| panic!("{path}: {error}"));
+    let command = std::fs::canonicalize(path).unwrap_or_else(|error| panic!("{path}: {error}"));
     println!(
         "Medians of {} rounds, or of as many as a line says. What is compared runs in turns.",
         timing::ROUNDS

@@ -9,6 +9,9 @@ use crate::files;
 use crate::settings;
 use crate::timing::{compare, ratio};
 
+/// Enough for any file.
+const MARKS: usize = 4_096;
+
 pub fn time() {
     let table = &settings::table()[..files::SET * 128];
     let [whole, half] = files::both().map(|file| {
@@ -23,8 +26,29 @@ pub fn time() {
     );
 }
 
+/// The selection of the file, and of the one half as long, once.
+pub fn once() {
+    let [file, _] = files::both();
+    select(&file);
+}
+
+pub fn once_half() {
+    let [_, file] = files::both();
+    select(&file);
+}
+
+fn select(file: &str) {
+    let mut marks = vec![0; MARKS];
+    let outcome = proved(
+        file.as_bytes(),
+        &settings::table()[..files::SET * 128],
+        &mut marks,
+    );
+    assert_eq!(black_box(outcome).0, 0);
+}
+
 fn time_one(what: &str, file: &[u8], table: &[u8]) -> (Duration, Duration) {
-    let (mut marks, mut others) = (vec![0; 4_096], vec![0; 4_096]);
+    let (mut marks, mut others) = (vec![0; MARKS], vec![0; MARKS]);
     check(file, table, &mut marks, &mut others);
     compare(
         what,

@@ -43,6 +43,18 @@ pub fn time() {
     );
 }
 
+/// The check, once.
+pub fn once() {
+    assert_eq!(refusal(&settings::table()), 0);
+}
+
+/// The check and the lookup of the last name, once.
+pub fn once_last() {
+    let names = settings::names();
+    let last = names.last().expect("a name");
+    assert_eq!(look_up(&settings::table(), last, &mut [0; 3]), 0);
+}
+
 fn refusal(table: &[u8]) -> u8 {
     // SAFETY: the call reads the table.
     unsafe { c::korzhinay_table(table.as_ptr().cast(), table.len()) }

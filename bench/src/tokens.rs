@@ -28,14 +28,7 @@ pub fn time() {
         },
         |i| format!("1 ? {i} : (2 | 3) || L'wide' != 'narrow' # with a comment"),
     ]);
-    let long = "(1 + $(SETTING_0001)) * 0xFFFF ".repeat(22);
-    let mut lent = Lent {
-        out: [0; 2],
-        codes: [0; 200],
-        starts: [0; 200],
-        lens: [0; 200],
-        values: [0; 200],
-    };
+    let (long, mut lent) = (long(), Lent::new());
     small.iter().for_each(|text| lent.check(text));
     lent.check(&long);
     compare(
@@ -56,7 +49,28 @@ pub fn time() {
     );
 }
 
+/// The tokens of the long expression, once.
+pub fn once() {
+    let mut lent = Lent::new();
+    lent.scan(&long());
+    assert_eq!(lent.out[0], 0);
+}
+
+fn long() -> String {
+    "(1 + $(SETTING_0001)) * 0xFFFF ".repeat(22)
+}
+
 impl Lent {
+    fn new() -> Lent {
+        Lent {
+            out: [0; 2],
+            codes: [0; 200],
+            starts: [0; 200],
+            lens: [0; 200],
+            values: [0; 200],
+        }
+    }
+
     fn scan(&mut self, text: &str) {
         // SAFETY: the call reads the text and writes within the arrays, which have the lengths that it asks for.
         unsafe {

@@ -1,4 +1,5 @@
-/* The header and the static library fit together: one use of each call from C, and the header's own function. */
+/* The header and the static library fit together: a few uses of each call from C, with guards round all that is lent, and the header's
+ * own function. */
 #include "korzhinay.h"
 #include <stdio.h>
 #include <string.h>
@@ -15,13 +16,143 @@ static void check(const char *what, int good)
     }
 }
 
-/* What stands in lent memory before a call. */
+/* What stands in lent memory, and on both sides of it, before a call. */
 #define UNTOUCHED 0xA5
+#define GUARD 64
+#define MOST_LENT 1600
+
+/* An array that is lent to a call, with guards on both sides that the call must leave alone. */
+struct lent {
+    _Alignas(8) uint8_t bytes[GUARD + MOST_LENT + GUARD];
+    size_t size;
+};
+
+static void *lend(struct lent *lent, size_t size)
+{
+    memset(lent->bytes, UNTOUCHED, sizeof lent->bytes);
+    lent->size = size;
+    return lent->bytes + GUARD;
+}
+
+/* Looks at the guards, and copies so many bytes from the array's start, guard included where it is shorter. */
+static void take_back(const char *what, const struct lent *lent, void *to, size_t count)
+{
+    int good = 1;
+    for (size_t i = 0; i < sizeof lent->bytes; i++)
+        if (i < GUARD || i >= GUARD + lent->size)
+            good &= lent->bytes[i] == UNTOUCHED;
+    check(what, good);
+    memcpy(to, lent->bytes + GUARD, count);
+}
+
+static int untouched(const void *bytes, size_t count)
+{
+    const uint8_t *each = bytes;
+    for (size_t i = 0; i < count; i++)
+        if (each[i] != UNTOUCHED)
+            return 0;
+    return 1;
+}
+
+static size_t length_of(const char *text)
+{
+    return text == NULL ? 0 : strlen(text);
+}
+
+static void check_table(const uint8_t *table, size_t table_len)
+{
+    check("a table of one record", korzhinay_table(table, table_len) == 0);
+    check("a record cut short", korzhinay_table(table, table_len - 1) == 1);
+    check("no table", korzhinay_table(NULL, 0) == 0);
+}
+
+static uint8_t lookup(const uint8_t *table, size_t table_len, const char *name, uint64_t found[3])
+{
+    struct lent lent;
+    uint64_t *three = lend(&lent, 3 * sizeof found[0]);
+    uint8_t refusal = korzhinay_lookup(table, table_len, (const uint8_t *)name, length_of(name), three);
+    take_back("beside what was found", &lent, found, 3 * sizeof found[0]);
+    return refusal;
+}
+
+static int finds(const uint64_t found[3], uint64_t kind, uint64_t number, uint64_t length)
+{
+    return found[0] == kind && found[1] == number && found[2] == length;
+}
+
+static void check_lookup(const uint8_t *table, size_t table_len, const uint8_t *strings, size_t strings_len)
+{
+    uint8_t string[128];
+    uint64_t found[3];
+
+    check("a lookup", lookup(table, table_len, "WEEK", found) == 0);
+    check("a number", finds(found, KORZHINAY_KIND_NUMBER, 48, 0));
+    check("a lookup in a table cut short", lookup(table, table_len - 1, "WEEK", found) == 1);
+    check("finds nothing and writes nothing", untouched(found, sizeof found));
+    check("a part of a name", lookup(table, table_len, "WEE", found) == 0);
+    check("is no such name", finds(found, 255, 0, 0));
+    check("no name in no table", lookup(NULL, 0, NULL, found) == 0 && finds(found, 255, 0, 0));
+    memcpy(string, table, sizeof string);
+    string[64] = KORZHINAY_KIND_STRING;
+    check("a string", lookup(string, sizeof string, "WEEK", found) == 0 && finds(found, KORZHINAY_KIND_STRING, 72, 8));
+    check("a wide string", lookup(strings, strings_len, "NAME", found) == 0);
+    check("and its place", finds(found, KORZHINAY_KIND_WIDE, 72, 2));
+}
+
+struct tokens {
+    uint64_t out[2], values[200];
+    uint16_t starts[200], lens[200];
+    uint8_t codes[200];
+};
+
+static void tokens(const char *text, struct tokens *t)
+{
+    struct lent out, codes, starts, lens, values;
+    uint64_t *two = lend(&out, sizeof t->out), *numbers = lend(&values, sizeof t->values);
+    uint16_t *offsets = lend(&starts, sizeof t->starts), *lengths = lend(&lens, sizeof t->lens);
+    uint8_t *sorts = lend(&codes, sizeof t->codes);
+
+    korzhinay_tokens((const uint8_t *)text, length_of(text), two, sorts, offsets, lengths, numbers);
+    take_back("beside two numbers", &out, t->out, sizeof t->out);
+    take_back("beside codes", &codes, t->codes, sizeof t->codes);
+    take_back("beside starts", &starts, t->starts, sizeof t->starts);
+    take_back("beside lengths", &lens, t->lens, sizeof t->lens);
+    take_back("beside values", &values, t->values, sizeof t->values);
+}
+
+/* Whether the entries from this one on are as they were. */
+static int stays_from(size_t first, const struct tokens *t)
+{
+    size_t rest = 200 - first;
+    return untouched(t->codes + first, rest) && untouched(t->starts + first, rest * sizeof t->starts[0])
+        && untouched(t->lens + first, rest * sizeof t->lens[0]) && untouched(t->values + first, rest * sizeof t->values[0]);
+}
+
+static void check_tokens(void)
+{
+    static char most[201];
+    struct tokens t;
+
+    tokens("$(WEEK) <= 5", &t);
+    check("three tokens, and no more", t.out[0] == 0 && t.out[1] == 3 && stays_from(3, &t));
+    check("their codes", t.codes[0] == KORZHINAY_MACRO && t.codes[1] == KORZHINAY_LESS_EQUAL && t.codes[2] == KORZHINAY_NUMBER);
+    check("the last one's place and value", t.starts[2] == 11 && t.lens[2] == 1 && t.values[2] == 5);
+    tokens(NULL, &t);
+    check("an empty expression", t.out[0] == 0 && t.out[1] == 0 && stays_from(0, &t));
+    memset(most, '~', 200);
+    tokens(most, &t);
+    check("200 tokens", t.out[0] == 0 && t.out[1] == 200 && t.codes[199] == KORZHINAY_COMPLEMENT && t.starts[199] == 199);
+    tokens("1 @", &t);
+    check("a token before a fault", t.out[0] == 3 && t.out[1] == 1 && stays_from(1, &t));
+}
 
 static uint8_t evaluate(const char *text, const uint8_t *table, size_t table_len, uint64_t out[6])
 {
-    memset(out, UNTOUCHED, 6 * sizeof out[0]);
-    return korzhinay_evaluate((const uint8_t *)text, strlen(text), table, table_len, out);
+    struct lent lent;
+    uint64_t *six = lend(&lent, 6 * sizeof out[0]);
+    uint8_t refusal = korzhinay_evaluate((const uint8_t *)text, length_of(text), table, table_len, six);
+    take_back("beside six numbers", &lent, out, 6 * sizeof out[0]);
+    return refusal;
 }
 
 static int answers(const uint64_t out[6], uint64_t kind, uint64_t number, uint64_t count, uint64_t memory, uint64_t start,
@@ -44,15 +175,21 @@ static void check_evaluation(const uint8_t *table, size_t table_len)
     check("and six zeros", answers(out, 0, 0, 0, 0, 0, 0));
     check("a table cut short", evaluate("1", table, table_len - 1, out) == 1);
     check("and six zeros again", answers(out, 0, 0, 0, 0, 0, 0));
-    check("nothing at all", korzhinay_evaluate(NULL, 0, NULL, 0, out) == 7);
+    check("nothing at all", evaluate(NULL, NULL, 0, out) == 7 && answers(out, 0, 0, 0, 0, 0, 0));
 }
 
+/* Of a buffer of so many bytes, at most 8; without any there is none. */
 static uint8_t field(uint8_t buffer[8], size_t room, const char *text, const uint8_t *table, size_t table_len, uint8_t datum,
                      uint64_t *length)
 {
-    memset(buffer, UNTOUCHED, 8);
-    memset(length, UNTOUCHED, sizeof *length);
-    return korzhinay_field(buffer, room, (const uint8_t *)text, strlen(text), table, table_len, datum, length);
+    struct lent bytes, number;
+    uint8_t *start = lend(&bytes, room);
+    uint64_t *count = lend(&number, sizeof *length);
+    uint8_t refusal = korzhinay_field(room > 0 ? start : NULL, room, (const uint8_t *)text, length_of(text), table, table_len, datum,
+                                      count);
+    take_back("beside a field", &bytes, buffer, 8);
+    take_back("beside a field's length", &number, length, sizeof *length);
+    return refusal;
 }
 
 static int holds(const uint8_t buffer[8], const char *bytes, size_t count)
@@ -80,14 +217,21 @@ static void check_field(const uint8_t *table, size_t table_len)
     check("a number for VOID*", field(buffer, 8, "2", NULL, 0, KORZHINAY_DATUM_VOID, &length) == 24);
     check("an unknown datum", field(buffer, 8, "2", NULL, 0, 6, &length) == 23);
     check("a missing PCD first", field(buffer, 8, "g.Pcd", table, table_len, 6, &length) == 9);
-    check("no buffer", korzhinay_field(NULL, 0, (const uint8_t *)"1", 1, NULL, 0, KORZHINAY_DATUM_UINT8, &length) == 26);
+    check("no buffer", field(buffer, 0, "1", NULL, 0, KORZHINAY_DATUM_UINT8, &length) == 26 && length == 0);
+    check("all of a buffer", field(buffer, 8, "~0", NULL, 0, KORZHINAY_DATUM_UINT64, &length) == 0);
+    check("eight bytes", length == 8 && holds(buffer, "\xFF\xFF\xFF\xFF\xFF\xFF\xFF\xFF", 8));
 }
 
+/* With so many marks, at most 8; without any there is no array. */
 static uint8_t selection(uint8_t marks[8], size_t room, const char *file, const uint8_t *table, size_t table_len, uint64_t out[3])
 {
-    memset(marks, UNTOUCHED, 8);
-    memset(out, UNTOUCHED, 3 * sizeof out[0]);
-    return korzhinay_select(marks, room, (const uint8_t *)file, strlen(file), table, table_len, out);
+    struct lent bytes, numbers;
+    uint8_t *start = lend(&bytes, room);
+    uint64_t *three = lend(&numbers, 3 * sizeof out[0]);
+    uint8_t refusal = korzhinay_select(room > 0 ? start : NULL, room, (const uint8_t *)file, length_of(file), table, table_len, three);
+    take_back("beside marks", &bytes, marks, 8);
+    take_back("beside three numbers", &numbers, out, 3 * sizeof out[0]);
+    return refusal;
 }
 
 static int shows(const uint64_t out[3], uint64_t line, uint64_t lines, uint64_t count)
@@ -123,7 +267,9 @@ static void check_selection(const uint8_t *table, size_t table_len)
     check("a table cut short", selection(marks, 8, "a", table, table_len - 1, out) == 1);
     check("and every mark 255 again", shows(out, 0, 0, 0) && refused(marks, 8));
     check("an unknown word", selection(marks, 8, "!iff 1", NULL, 0, out) == 18 && shows(out, 1, 0, 0));
-    check("no file, no marks", korzhinay_select(NULL, 0, NULL, 0, NULL, 0, out) == 0 && shows(out, 0, 0, 0));
+    check("no file, no marks", selection(marks, 0, NULL, NULL, 0, out) == 0 && shows(out, 0, 0, 0));
+    check("as many marks as lines", selection(marks, 8, "\n\n\n\n\n\n\n\n", NULL, 0, out) == 0);
+    check("eight", shows(out, 0, 8, 0) && holds(marks, "\1\1\1\1\1\1\1\1", 8));
 }
 
 static int means(uint8_t number, const char *meaning)
@@ -154,40 +300,17 @@ static void check_meanings(void)
 int main(void)
 {
     uint8_t settings[256] = "NAME";
-    uint8_t table[128] = "WEEK";
-    uint64_t found[3], out[2], values[200];
-    uint8_t codes[200];
-    uint16_t starts[200], lens[200];
-    const char *text = "$(WEEK) <= 5";
-
-    table[65] = 8;
-    table[72] = 48;
-    check("a table of one record", korzhinay_table(table, sizeof table) == 0);
-    check("a record cut short", korzhinay_table(table, 127) == 1);
-    check("no table", korzhinay_table(NULL, 0) == 0);
-
-    check("a lookup", korzhinay_lookup(table, sizeof table, (const uint8_t *)"WEEK", 4, found) == 0);
-    check("a number", found[0] == 0 && found[1] == 48 && found[2] == 0);
-    check("a lookup in a table cut short", korzhinay_lookup(table, 127, (const uint8_t *)"WEEK", 4, found) == 1);
-    korzhinay_lookup(table, sizeof table, (const uint8_t *)"WEE", 3, found);
-    check("no such name", found[0] == 255 && found[1] == 0 && found[2] == 0);
-    table[64] = 1;
-    korzhinay_lookup(table, sizeof table, (const uint8_t *)"WEEK", 4, found);
-    check("a string", found[0] == 1 && found[1] == 72 && found[2] == 8);
-
-    korzhinay_tokens((const uint8_t *)text, strlen(text), out, codes, starts, lens, values);
-    check("three tokens", out[0] == 0 && out[1] == 3);
-    check("their codes", codes[0] == KORZHINAY_MACRO && codes[1] == KORZHINAY_LESS_EQUAL && codes[2] == KORZHINAY_NUMBER);
-    check("the last one's place and value", starts[2] == 11 && lens[2] == 1 && values[2] == 5);
-    korzhinay_tokens(NULL, 0, out, codes, starts, lens, values);
-    check("an empty expression", out[0] == 0 && out[1] == 0);
+    uint8_t *week = settings + 128;
 
     settings[64] = KORZHINAY_KIND_WIDE;
     settings[65] = 2;
     memcpy(settings + 72, "xy", 2);
-    memcpy(settings + 128, "WEEK", 4);
-    settings[128 + 65] = 8;
-    settings[128 + 72] = 48;
+    memcpy(week, "WEEK", 4);
+    week[65] = 8;
+    week[72] = 48;
+    check_table(week, 128);
+    check_lookup(week, 128, settings, sizeof settings);
+    check_tokens();
     check_evaluation(settings, sizeof settings);
     check_field(settings, sizeof settings);
     check_selection(settings, sizeof settings);
