@@ -10,11 +10,12 @@ use lib.Seq.{sets-eq, take-at, length-sets}
 use lib.Dec.{ltb}
 use borrow.Author.Tests.{ltb-true, ltb-false}
 use Rattle.token.specs.Tokens.{Token, Reading, codesOf, reading, stored, Stored}
+use Rattle.token.specs.Steps.{Room}
 use Rattle.token.specs.declared.scan.Ending.the-variants.{Complete}
 use Rattle.token.proofs.Reading.{most-tokens}
 use Rattle.grammar.specs.Parse.{parse}
 use Rattle.expression.specs.Meaning.{codeOf, meaning}
-use Rattle.expression.specs.Parsing.{tokenAt}
+use Rattle.expression.specs.Parsing.{tokenAt, Holding}
 use Rattle.evaluation.specs.Evaluation.{END-TOKEN, tokenIn, concluded, ofTokens, inSoundTable}
 
 -- one entry of each token, stored in a list that has room
@@ -55,21 +56,31 @@ module _ (read : Reading) (cs ss ls vs cs′ ss′ ls′ vs′ : List ℕ) (so :
     pub tokens-read : tokenAt cs′ ss′ ls′ vs′ (length (read .tokens)) ≡ tokenIn (read .tokens)
     tokens-read = fun-ext at
 
--- an array of zeros has room for every token
-abbrev zeros : List ℕ
-zeros = replicate 200 0
+module _ (e t cs₀ ss₀ ls₀ vs₀ cs ss ls vs : List ℕ) (room : Room (reading e) cs₀ ss₀ ls₀ vs₀) (so : Stored (reading e) cs₀ ss₀ ls₀ vs₀ cs ss ls vs) where
+  kept : (f : Token → ℕ) (l l′ : List ℕ) → l′ ≡ stored (map f (reading e .tokens)) l → length l′ ≡ length l
+  kept f l l′ q = ap length q ∙ length-sets l 0 (map f (reading e .tokens))
 
-room : (e : List ℕ) → length (reading e .tokens) ≤ length zeros
-room e = most-tokens e
-
-module _ (e t cs ss ls vs : List ℕ) (so : Stored (reading e) zeros zeros zeros zeros cs ss ls vs) where
-  pub codes-long : length cs ≡ 200
-  codes-long = ap length (so .codes-are) ∙ length-sets zeros 0 (map (λ k. k .code) (reading e .tokens))
+  -- the arrays have the tokens
+  pub holding : (n : ℕ) → n ≡ length (reading e .tokens) → Holding cs ss ls vs n
+  holding n c =
+      record {
+        few = omega (arith, c, most-tokens e);
+        codes = omega (arith, c, room .codes-hold, kept (λ k. k .code) cs₀ cs (so .codes-are));
+        starts = omega (arith, c, room .starts-hold, kept (λ k. k .start) ss₀ ss (so .starts-are));
+        lens = omega (arith, c, room .lens-hold, kept (λ k. k .len) ls₀ ls (so .lens-are));
+        values = omega (arith, c, room .values-hold, kept (λ k. k .value) vs₀ vs (so .values-are));
+      }
 
   -- where reading met no refusal, the answer to the arrays is the answer to the expression
   pub answers : (n : ℕ) → n ≡ length (reading e .tokens) → reading e .ending ≡ Complete
       → concluded (take n cs) (parse codeOf (meaning e t) (tokenAt cs ss ls vs n) n) ≡ inSoundTable e t
   unfolding inSoundTable ofTokens
   answers n c y =
-      let r = room e in
-      rw (c, y, codes-read (reading e) zeros zeros zeros zeros cs ss ls vs so r r r r, tokens-read (reading e) zeros zeros zeros zeros cs ss ls vs so r r r r)
+      let codes = codes-read (reading e) cs₀ ss₀ ls₀ vs₀ cs ss ls vs so (room .codes-hold) (room .starts-hold) (room .lens-hold) (room .values-hold) in
+      let tokens = tokens-read (reading e) cs₀ ss₀ ls₀ vs₀ cs ss ls vs so (room .codes-hold) (room .starts-hold) (room .lens-hold) (room .values-hold) in
+      rw (c, y, codes, tokens)
+
+-- as many entries as bytes, or 200, are room enough
+pub room-of : (e cs ss ls vs : List ℕ) (most : ℕ) → length (reading e .tokens) ≤ most
+    → most ≤ length cs → most ≤ length ss → most ≤ length ls → most ≤ length vs → Room (reading e) cs ss ls vs
+room-of e cs ss ls vs most h c s l v = record { codes-hold = omega arith; starts-hold = omega arith; lens-hold = omega arith; values-hold = omega arith }

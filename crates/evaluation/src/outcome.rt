@@ -14,13 +14,15 @@ use value::values;
 ghost use mathlib.Core.Path.{_≡_};
 ghost use mathlib.Core.Bool.{true};
 ghost use mathlib.Core.List.{List};
-ghost use Prim.Native.Nat.{ℕ, _≤_};
-ghost use lib.ListN.{length, take};
+ghost use Prim.Native.Nat.{ℕ};
+ghost use lib.ListN.{take};
 ghost use Rattle.settings.specs.Table.{wellFormed};
+ghost use Rattle.token.specs.Tokens.{reading};
+ghost use Rattle.token.specs.Steps.{Room};
 ghost use Rattle.grammar.specs.Parse.{parse};
 ghost use Rattle.value.specs.Places.{meant, known};
 ghost use Rattle.expression.specs.Meaning.{codeOf, meaning};
-ghost use Rattle.expression.specs.Parsing.{tokenAt};
+ghost use Rattle.expression.specs.Parsing.{tokenAt, Ready};
 ghost use Rattle.evaluation.specs.Evaluation.{refusedWith, finished, clashes as clashesOf, judged, concluded, inSoundTable, evaluation, stated, HandsBack};
 
 fn refused(number: u8) -> Answer
@@ -75,12 +77,12 @@ fn conclude<'a>(
     expr: &'a [u8],
     table: &'a [u8],
     codes: &'a [u8; 200],
-    starts: &'a [u16; 200],
-    lens: &'a [u16; 200],
-    values: &'a [u64; 200],
+    starts: &'a [u16],
+    lens: &'a [u16],
+    values: &'a [u64],
     n: TokenNumber,
 ) -> Answer
-    requires { ⌜ (wellFormed (now table) ≡ true) × (n .0 ≤ 200) × (n .0 ≤ length (now codes)) ⌝ }
+    requires { ⌜ Ready (now table) (now codes) (now starts) (now lens) (now values) (n .0) ⌝ }
     ensures { λ r. ⌜ stated (now (expr .entry)) (now (table .entry)) r ≡ concluded (take (n .0) (now (codes .entry))) (parse codeOf (meaning (now (expr .entry)) (now (table .entry))) (tokenAt (now (codes .entry)) (now (starts .entry)) (now (lens .entry)) (now (values .entry)) (n .0)) (n .0)) ⌝ }
 {
     match expression::parse(expr, table, codes, starts, lens, values, n) {
@@ -94,22 +96,46 @@ fn conclude<'a>(
     }
 }
 
+// The answer over a table that is known to be well formed, with room for the tokens in slices that are lent.
+fn in_room<'a>(
+    codes: &mut [u8; 200],
+    starts: &mut [u16],
+    lens: &mut [u16],
+    values: &mut [u64],
+    expr: &'a [u8],
+    table: &'a [u8],
+) -> Answer
+    requires { ⌜ (wellFormed (now table) ≡ true) × Room (reading (now expr)) (now codes) (now starts) (now lens) (now values) ⌝ }
+    ensures { λ r. ⌜ stated (now (expr .entry)) (now (table .entry)) r ≡ inSoundTable (now (expr .entry)) (now (table .entry)) ⌝ }
+{
+    let s = scan::tokens(codes, starts, lens, values, expr);
+    let ending = s.ending;
+    let read = s.tokens;
+    match ending {
+        Ending::Refused(r) => Answer::Refused(r),
+        Ending::Complete => conclude(expr, table, codes, starts, lens, values, read),
+    }
+}
+
+// An expression has no more tokens than bytes: for one of at most this many, less memory is cleared.
+const SHORT: usize = 48;
+
 // The answer over a table that is known to be well formed.
 pub fn in_sound_table<'a>(expr: &'a [u8], table: &'a [u8]) -> Answer
     requires { ⌜ wellFormed (now table) ≡ true ⌝ }
     ensures { λ r. ⌜ stated (now (expr .entry)) (now (table .entry)) r ≡ inSoundTable (now (expr .entry)) (now (table .entry)) ⌝ }
 {
     let mut codes = [0u8; 200];
+    if expr.len() <= SHORT {
+        let mut starts = [0u16; 48];
+        let mut lens = [0u16; 48];
+        let mut values = [0u64; 48];
+        return in_room(&mut codes, &mut starts, &mut lens, &mut values, expr, table);
+    }
     let mut starts = [0u16; 200];
     let mut lens = [0u16; 200];
     let mut values = [0u64; 200];
-    let s = scan::tokens(&mut codes, &mut starts, &mut lens, &mut values, expr);
-    let ending = s.ending;
-    let read = s.tokens;
-    match ending {
-        Ending::Refused(r) => Answer::Refused(r),
-        Ending::Complete => conclude(expr, table, &codes, &starts, &lens, &values, read),
-    }
+    in_room(&mut codes, &mut starts, &mut lens, &mut values, expr, table)
 }
 
 // The answer to an expression over a table, whatever their bytes.

@@ -3,7 +3,7 @@ use Prim.Native.Nat.{ℕ, _≤_}
 use mathlib.Core.Path.{_≡_}
 use mathlib.Core.Bool.{true}
 use mathlib.Core.List.{List}
-use lib.ListN.{getD}
+use lib.ListN.{length, getD}
 use lib.Dec.{ltb}
 use Rattle.text.specs.Bytes.{pick}
 use Rattle.settings.specs.Table.{wellFormed}
@@ -33,7 +33,15 @@ found e t (Got a j) = got (known e t a) (j .0)
 abbrev pub Parses : (e t cs ss ls vs : List ℕ) (n : ℕ) → Parsed → Type 0
 Parses e t cs ss ls vs n r = Yields codeOf (meaning e t) (tokenAt cs ss ls vs n) n (find expression 0) (found e t r)
 
--- what may be assumed: the table is well formed, and there are at most 200 tokens
-pub record Ready (t : List ℕ) (n : ℕ) : Type 0 where
-  pub sound : wellFormed t ≡ true
+-- the arrays have n tokens, 200 at most
+pub record Holding (cs ss ls vs : List ℕ) (n : ℕ) : Type 0 where
   pub few : n ≤ 200
+  pub codes : n ≤ length cs
+  pub starts : n ≤ length ss
+  pub lens : n ≤ length ls
+  pub values : n ≤ length vs
+
+-- what may be assumed: the table is well formed, and the arrays have n tokens
+pub record Ready (t cs ss ls vs : List ℕ) (n : ℕ) : Type 0 where
+  pub sound : wellFormed t ≡ true
+  pub holding : Holding cs ss ls vs n

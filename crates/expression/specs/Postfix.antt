@@ -1,19 +1,17 @@
 -- The entries of a postfix order, one after the other, over the operands that wait for their operator. No promise cites this.
 use Prim.Native.Nat.{ℕ, _+_, _-_, _≤_, _<_}
 use mathlib.Core.Path.{_≡_}
-use mathlib.Core.Bool.{true}
 use mathlib.Core.List.{List, [], _∷_}
 use lib.ListN.{length, take}
 use lib.Dec.{eqb, leb}
 use Rattle.text.specs.Bytes.{pick}
 use Rattle.lexeme.specs.Codes.{QUESTION}
-use Rattle.settings.specs.Table.{wellFormed}
 use Rattle.grammar.specs.Grammar.{isPrimary}
 use Rattle.value.specs.Attributes.{Attributes, primaryOf, unaryFrom, binaryFrom, choiceFrom}
 use Rattle.value.specs.declared.Known.{Known}
 use Rattle.value.specs.Places.{known}
 use Rattle.syntax.specs.Order.{codeAt, UNARY, SKIP}
-use Rattle.expression.specs.Parsing.{tokenAt}
+use Rattle.expression.specs.Parsing.{tokenAt, Ready}
 
 -- what an order is worked out over: expression and table, and the first n tokens of the arrays
 pub record Input : Type 0 where
@@ -89,8 +87,7 @@ module _ (i : Input) (most : ℕ) where
 
   -- what may be assumed of the first m entries of an order
   pub record Foldable (o : List ℕ) (m : ℕ) : Type 0 where
-    pub sound : wellFormed (i .t) ≡ true
-    pub few : i .n ≤ 200
+    pub ready : Ready (i .t) (i .codes) (i .starts) (i .lens) (i .values) (i .n)
     pub all : m ≤ 200
     pub long : length o ≡ 200
     pub value : Attributes

@@ -2,19 +2,19 @@
 use units::TokenNumber;
 use value::attributes::Lexical;
 ghost use mathlib.Core.Path.{_≡_};
-ghost use Prim.Native.Nat.{_≤_, _<_};
+ghost use Prim.Native.Nat.{_<_};
 ghost use Rattle.value.specs.Places.{tokenOf};
-ghost use Rattle.expression.specs.Parsing.{tokenAt};
+ghost use Rattle.expression.specs.Parsing.{tokenAt, Holding};
 
 pub fn token_at(
     codes: &[u8; 200],
-    starts: &[u16; 200],
-    lens: &[u16; 200],
-    values: &[u64; 200],
+    starts: &[u16],
+    lens: &[u16],
+    values: &[u64],
     n: TokenNumber,
     at: TokenNumber,
 ) -> Lexical
-    requires { ⌜ (n .0 ≤ 200) × (at .0 < n .0) ⌝ }
+    requires { ⌜ Holding (now codes) (now starts) (now lens) (now values) (n .0) × (at .0 < n .0) ⌝ }
     ensures { λ r. ⌜ tokenOf r ≡ tokenAt (now (codes .entry)) (now (starts .entry)) (now (lens .entry)) (now (values .entry)) (n .0) (at .0) ⌝ }
 {
     let i = at.0;

@@ -34,15 +34,15 @@ input s =
 foldable : (s : tie.Start) (most m j : ℕ) (o : List ℕ) → OrderTo (input s .codes) (input s .n) m j o → m ≤ most + most → Foldable (input s) most o m
 foldable s most m j o w room =
     let l = length-take-le m o (omega (arith, w .most, w .long)) in
-    let v = valued (input s) most (s .pre .few) (take m o) j (omega (arith, l, w .most)) (omega (arith, l)) (w .made) in
-    record { sound = s .pre .sound; few = s .pre .few; all = w .most; long = w .long; value = v .0; gives = v .1 }
+    let v = valued (input s) most (s .pre .holding .few) (take m o) j (omega (arith, l, w .most)) (omega (arith, l)) (w .made) in
+    record { ready = s .pre; all = w .most; long = w .long; value = v .0; gives = v .1 }
 
 -- what it leaves is what the parser makes
 folded : (s : tie.Start) (most m j : ℕ) (o : List ℕ) → OrderTo (input s .codes) (input s .n) m j o → m ≤ most + most → (z : Known) → Folds (input s) most o m z
     → Yields codeOf (meaning (input s .e) (input s .t)) (tokenAt (input s .codes) (input s .starts) (input s .lens) (input s .values) (input s .n)) (input s .n) (find expression 0) (got (known (input s .e) (input s .t) z) j)
 folded s most m j o w room z f =
     let l = length-take-le m o (omega (arith, w .most, w .long)) in
-    come (input s) most (s .pre .few) (take m o) j (omega (arith, l, w .most)) (omega (arith, l)) (w .made) z f
+    come (input s) most (s .pre .holding .few) (take m o) j (omega (arith, l, w .most)) (omega (arith, l)) (w .made) z f
 
 write-requires : tie.Need-write-requires
 write-requires c κs = search needs
@@ -58,14 +58,14 @@ slice-aggregate-fold c = search needs
 
 fold-requires : tie.Need-fold-requires
 fold-requires c κs =
-    let start = c .before .before .before .before .before .before .before .before .before .before in
+    let start = c .before .before .before .before .before .before .before .before .before .before .before .before .before in
     let write = c .before .before .before .before .before .before .write in
     let written = rw (c .before .before .before .before .filled .given .1) at (write .ensures) in
     foldable start 16 _ _ (write .last .0) written (omega (arith, c .before .before .if1 .taken))
 
 returns : tie.Need-returns
 returns c =
-    let start = c .before .before .before .before .before .before .before .before .before .before .before .before in
+    let start = c .before .before .before .before .before .before .before .before .before .before .before .before .before .before .before in
     let write = c .before .before .before .before .before .before .before .before .write in
     let written = rw (c .before .before .before .before .before .before .filled .given .1) at (write .ensures) in
     folded start 16 _ _ (write .last .0) written (omega (arith, c .before .before .before .before .if1 .taken)) (c .before .fold .result) (c .before .fold .ensures)
@@ -75,19 +75,19 @@ slice-aggregate-fold-2 c = search needs
 
 fold-requires-2 : tie.Need-fold-requires-2
 fold-requires-2 c κs =
-    let start = c .before .before .before .before .before .before .before .before .before .before in
+    let start = c .before .before .before .before .before .before .before .before .before .before .before .before .before in
     let write = c .before .before .before .before .before .before .write in
     let written = rw (c .before .before .before .before .filled .given .1) at (write .ensures) in
     foldable start 100 _ _ (write .last .0) written (omega (arith, written .most))
 
 returns-2 : tie.Need-returns-2
 returns-2 c =
-    let start = c .before .before .before .before .before .before .before in
-    faulted (input start) 100 (start .pre .few) _ (rw (c .before .at .given .1) at (c .before .before .before .write .ensures))
+    let start = c .before .before .before .before .before .before .before .before .before .before in
+    faulted (input start) 100 (start .pre .holding .few) _ (rw (c .before .at .given .1) at (c .before .before .before .write .ensures))
 
 returns-3 : tie.Need-returns-3
 returns-3 c =
-    let start = c .before .before .before .before .before .before .before .before .before .before .before .before in
+    let start = c .before .before .before .before .before .before .before .before .before .before .before .before .before .before .before in
     let write = c .before .before .before .before .before .before .before .before .write in
     let written = rw (c .before .before .before .before .before .before .filled .given .1) at (write .ensures) in
     folded start 100 _ _ (write .last .0) written (omega (arith, written .most)) (c .before .fold2 .result) (c .before .fold2 .ensures)

@@ -1,10 +1,14 @@
--- The scan left the tokens; the two numbers are its answer.
+-- The arrays have room for 200 tokens; the scan left them, and the two numbers are its answer.
+use native.Mathlib.Omega.{arith}
 use borrow.Author.Needs.{needs}
+use Rattle.token.proofs.Reading.{most-tokens}
 use Rattle.korzhinay.proofs.korzhinay_tokens.Statement.{statement}
 use Rattle.korzhinay.proofs.korzhinay_tokens.Tie as tie
 
 tokens-requires : tie.Need-tokens-requires
-tokens-requires c κs = search needs
+tokens-requires c κs =
+    let most = most-tokens (c .before .before .before .before .before .args .expr .now) in
+    record { codes-hold = omega (arith, most); starts-hold = omega (arith, most); lens-hold = omega (arith, most); values-hold = omega (arith, most) }
 
 number-of-requires : tie.Need-number-of-requires
 number-of-requires c κs = search needs
@@ -19,8 +23,9 @@ element-write-out-2 : tie.Need-element-write-out-2
 element-write-out-2 c = search needs
 
 returns : tie.Need-returns
-returns c = let s = c .before .before .tokens .ensures in
-    record { head = rw (c .number-of .ensures, s .ending, s .count); tokens = s .tokens }
+returns c =
+    let scan = c .before .before .tokens .ensures in
+    record { head = rw (c .number-of .ensures, scan .ending, scan .count); tokens = scan .tokens }
 
 pub korzhinay-tokens-spec : {M : Type 1} → statement M
 korzhinay-tokens-spec =

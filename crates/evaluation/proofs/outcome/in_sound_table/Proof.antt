@@ -1,45 +1,65 @@
--- The scan left the tokens in the arrays, so the answer to the arrays is the answer to the tokens.
-use Prim.Native.Nat.{_≤_}
+-- A short expression has no more tokens than bytes, and any expression at most 200.
 use native.Mathlib.Omega.{arith}
-use mathlib.Core.Path.{sym, _∙_}
+use lib.ListN.{replicate}
 use borrow.Author.Needs.{needs}
-use Rattle.token.proofs.Reading.{most-tokens}
-use Rattle.evaluation.specs.Evaluation.{inSoundTable}
-use Rattle.evaluation.proofs.Arrays.{codes-long, answers}
+use Rattle.token.proofs.Reading.{tokens-of-bytes, most-tokens}
+use Rattle.evaluation.proofs.Arrays.{room-of}
 use Rattle.evaluation.proofs.outcome.in_sound_table.Statement.{statement}
 use Rattle.evaluation.proofs.outcome.in_sound_table.Tie as tie
 
-tokens-requires : tie.Need-tokens-requires
-tokens-requires c κs = search needs
+slice-aggregate-in-room : tie.Need-slice-aggregate-in-room
+slice-aggregate-in-room c =
+    search needs
 
-enum-known-ending : tie.Need-enum-known-ending
-enum-known-ending c = search needs
+slice-aggregate-in-room-2 : tie.Need-slice-aggregate-in-room-2
+slice-aggregate-in-room-2 c =
+    search needs
 
-enum-told : tie.Need-enum-told
-enum-told c = search needs
+slice-aggregate-in-room-3 : tie.Need-slice-aggregate-in-room-3
+slice-aggregate-in-room-3 c =
+    search needs
 
-conclude-requires : tie.Need-conclude-requires
-conclude-requires c κs =
-    let s = c .before .before .before .before .before .before .before .before .before .before .before .before .before .before in
-    let r = c .before .before .before .before .before .before .before .tokens in
-    let n : r .result .tokens .0 ≤ 200 = omega (arith, r .ensures .count, most-tokens (s .args .expr .now)) in
-    let l = codes-long (s .args .expr .now) (s .args .table .now) (r .last .0) (r .last .1 .0) (r .last .1 .1 .0) (r .last .1 .1 .1 .0) (r .ensures .tokens) in
-    (s .pre, n, omega arith)
+in-room-requires : tie.Need-in-room-requires
+in-room-requires c κs =
+    let start = c .before .before .before .before .before .before .before in
+    (start .pre, room-of (start .args .expr .now) (replicate 200 0) (replicate 48 0) (replicate 48 0) (replicate 48 0) 48 (omega (arith, tokens-of-bytes (start .args .expr .now), c .before .before .before .before .if1 .taken)) (omega arith) (omega arith) (omega arith) (omega arith))
 
 returns : tie.Need-returns
-unfolding inSoundTable
 returns c =
-    let e = c .before .before .before .before .tokens .ensures .ending in
-    rw (← e, c .before .ending .given .1)
+    search needs
+
+slice-aggregate-in-room-4 : tie.Need-slice-aggregate-in-room-4
+slice-aggregate-in-room-4 c =
+    search needs
+
+slice-aggregate-in-room-5 : tie.Need-slice-aggregate-in-room-5
+slice-aggregate-in-room-5 c =
+    search needs
+
+slice-aggregate-in-room-6 : tie.Need-slice-aggregate-in-room-6
+slice-aggregate-in-room-6 c =
+    search needs
+
+in-room-requires-2 : tie.Need-in-room-requires-2
+in-room-requires-2 c κs =
+    let start = c .before .before .before .before .before .before .before in
+    (start .pre, room-of (start .args .expr .now) (replicate 200 0) (replicate 200 0) (replicate 200 0) (replicate 200 0) 200 (most-tokens (start .args .expr .now)) (omega arith) (omega arith) (omega arith) (omega arith))
 
 returns-2 : tie.Need-returns-2
 returns-2 c =
-    let s = c .before .before .before .before .before .before .before .before .before .before .before .before .before .before .before in
-    let r = c .before .before .before .before .before .before .before .before .tokens in
-    let y = sym (r .ensures .ending) ∙ c .before .before .before .before .before .enum-told .given .1 in
-    c .conclude .ensures ∙ answers (s .args .expr .now) (s .args .table .now) (r .last .0) (r .last .1 .0) (r .last .1 .1 .0) (r .last .1 .1 .1 .0) (r .ensures .tokens) (r .result .tokens .0) (r .ensures .count) y
+    search needs
 
 pub in-sound-table-spec : {M : Type 1} → statement M
 in-sound-table-spec =
     tie.close
-    (tie.spec tokens-requires enum-known-ending enum-told conclude-requires returns returns-2)
+    (tie.spec
+    slice-aggregate-in-room
+    slice-aggregate-in-room-2
+    slice-aggregate-in-room-3
+    in-room-requires
+    returns
+    slice-aggregate-in-room-4
+    slice-aggregate-in-room-5
+    slice-aggregate-in-room-6
+    in-room-requires-2
+    returns-2)

@@ -47,56 +47,56 @@ work s =
     }
 
 -- what the entry at hand stands for, in each arm
-found-unary : (c : tie.Then1 Inv-loop μ-loop) → Next (work (c .before .before .before .before .before .before .before)) unary (c .before .wide .result) (c .before .before .before .before .loop .waiting) (c .before .before .before .before .loop .top) (c .before .before .before .before .loop .p)
+found-unary : (c : tie.Then1 Inv-loop μ-loop) → Next (work (c .before .before .before .before .before .before .before .before .before .before)) unary (c .before .wide .result) (c .before .before .before .before .loop .waiting) (c .before .before .before .before .loop .top) (c .before .before .before .before .loop .p)
 found-unary c =
-    let start = c .before .before .before .before .before .before .before in
+    let start = c .before .before .before .before .before .before .before .before .before .before in
     let loop = c .before .before .before .before .loop in
     let x = c .before .wide in
     opened unary (x .result) (c .before .before .before .loop-test .taken) (omega (arith, start .pre .all, start .pre .long)) (x .ensures) (is-unary (work start .i) (x .result) (c .if1 .taken)) (loop .inv .3)
 
-found-operand : (c : tie.Then2 Inv-loop μ-loop) → Next (work (c .before .before .before .before .before .before .before .before .before .before)) operand (c .before .before .before .before .wide .result) (c .before .before .before .before .before .before .before .loop .waiting) (c .before .before .before .before .before .before .before .loop .top) (c .before .before .before .before .before .before .before .loop .p)
+found-operand : (c : tie.Then2 Inv-loop μ-loop) → Next (work (c .before .before .before .before .before .before .before .before .before .before .before .before .before)) operand (c .before .before .before .before .wide .result) (c .before .before .before .before .before .before .before .loop .waiting) (c .before .before .before .before .before .before .before .loop .top) (c .before .before .before .before .before .before .before .loop .p)
 found-operand c =
-    let start = c .before .before .before .before .before .before .before .before .before .before in
+    let start = c .before .before .before .before .before .before .before .before .before .before .before .before .before in
     let loop = c .before .before .before .before .before .before .before .loop in
     let x = c .before .before .before .before .wide in
     opened operand (x .result) (c .before .before .before .before .before .before .loop-test .taken) (omega (arith, start .pre .all, start .pre .long)) (x .ensures) (is-operand (work start .i) (x .result) (c .before .before .before .if1 .left) (ap isPrimary (sym (c .before .before .code-at2 .ensures)) ∙ sym (c .before .is-primary .ensures) ∙ c .if2 .taken)) (loop .inv .3)
 
-found-choice : (c : tie.Then4 Inv-loop μ-loop) → Next (work (c .before .before .before .before .before .before .before .before .before .before .before .before)) choice (c .before .before .before .before .before .before .wide .result) (c .before .before .before .before .before .before .before .before .before .loop .waiting) (c .before .before .before .before .before .before .before .before .before .loop .top) (c .before .before .before .before .before .before .before .before .before .loop .p)
+found-choice : (c : tie.Then4 Inv-loop μ-loop) → Next (work (c .before .before .before .before .before .before .before .before .before .before .before .before .before .before .before)) choice (c .before .before .before .before .before .before .wide .result) (c .before .before .before .before .before .before .before .before .before .loop .waiting) (c .before .before .before .before .before .before .before .before .before .loop .top) (c .before .before .before .before .before .before .before .before .before .loop .p)
 found-choice c =
-    let start = c .before .before .before .before .before .before .before .before .before .before .before .before in
+    let start = c .before .before .before .before .before .before .before .before .before .before .before .before .before .before .before in
     let loop = c .before .before .before .before .before .before .before .before .before .loop in
     let x = c .before .before .before .before .before .before .wide in
     opened choice (x .result) (c .before .before .before .before .before .before .before .before .loop-test .taken) (omega (arith, start .pre .all, start .pre .long)) (x .ensures) (is-choice (work start .i) (x .result) (c .before .before .before .before .before .if1 .left) (ap isPrimary (sym (c .before .before .before .before .code-at2 .ensures)) ∙ sym (c .before .before .before .is-primary .ensures) ∙ c .before .before .if2 .left) (λ q. c .before .if3 .taken (sym (x .ensures) ∙ q)) (sym (c .before .before .before .before .code-at2 .ensures) ∙ c .if4 .taken)) (loop .inv .3)
 
-found-binary : (c : tie.Else4 Inv-loop μ-loop) → Next (work (c .before .before .before .before .before .before .before .before .before .before .before .before)) binary (c .before .before .before .before .before .before .wide .result) (c .before .before .before .before .before .before .before .before .before .loop .waiting) (c .before .before .before .before .before .before .before .before .before .loop .top) (c .before .before .before .before .before .before .before .before .before .loop .p)
+found-binary : (c : tie.Else4 Inv-loop μ-loop) → Next (work (c .before .before .before .before .before .before .before .before .before .before .before .before .before .before .before)) binary (c .before .before .before .before .before .before .wide .result) (c .before .before .before .before .before .before .before .before .before .loop .waiting) (c .before .before .before .before .before .before .before .before .before .loop .top) (c .before .before .before .before .before .before .before .before .before .loop .p)
 found-binary c =
-    let start = c .before .before .before .before .before .before .before .before .before .before .before .before in
+    let start = c .before .before .before .before .before .before .before .before .before .before .before .before .before .before .before in
     let loop = c .before .before .before .before .before .before .before .before .before .loop in
     let x = c .before .before .before .before .before .before .wide in
     opened binary (x .result) (c .before .before .before .before .before .before .before .before .loop-test .taken) (omega (arith, start .pre .all, start .pre .long)) (x .ensures) (is-binary (work start .i) (x .result) (c .before .before .before .before .before .if1 .left) (ap isPrimary (sym (c .before .before .before .before .code-at2 .ensures)) ∙ sym (c .before .before .before .is-primary .ensures) ∙ c .before .before .if2 .left) (λ q. c .before .if3 .taken (sym (x .ensures) ∙ q)) (λ q. c .if4 .left (c .before .before .before .before .code-at2 .ensures ∙ q))) (loop .inv .3)
 
-found-skip : (c : tie.Else3 Inv-loop μ-loop) → Next (work (c .before .before .before .before .before .before .before .before .before .before .before)) skip (c .before .before .before .before .before .wide .result) (c .before .before .before .before .before .before .before .before .loop .waiting) (c .before .before .before .before .before .before .before .before .loop .top) (c .before .before .before .before .before .before .before .before .loop .p)
+found-skip : (c : tie.Else3 Inv-loop μ-loop) → Next (work (c .before .before .before .before .before .before .before .before .before .before .before .before .before .before)) skip (c .before .before .before .before .before .wide .result) (c .before .before .before .before .before .before .before .before .loop .waiting) (c .before .before .before .before .before .before .before .before .loop .top) (c .before .before .before .before .before .before .before .before .loop .p)
 found-skip c =
-    let start = c .before .before .before .before .before .before .before .before .before .before .before in
+    let start = c .before .before .before .before .before .before .before .before .before .before .before .before .before .before in
     let loop = c .before .before .before .before .before .before .before .before .loop in
     let x = c .before .before .before .before .before .wide in
     opened skip (x .result) (c .before .before .before .before .before .before .before .loop-test .taken) (omega (arith, start .pre .all, start .pre .long)) (x .ensures) (is-skip (work start .i) (x .result) (c .before .before .before .before .if1 .left) (ap isPrimary (sym (c .before .before .before .code-at2 .ensures)) ∙ sym (c .before .before .is-primary .ensures) ∙ c .before .if2 .left) (x .ensures ∙ c .if3 .left)) (loop .inv .3)
 
 loop-holds : tie.Need-loop-holds Inv-loop μ-loop
 loop-holds c =
-    let start = c .before .before in
+    let start = c .before .before .before .before .before in
     (omega arith, omega arith, refl, begun (work start) (start .args .waiting .now))
 
 mul-e : tie.Need-mul-e Inv-loop μ-loop
 mul-e c =
-    let start = c .before .before .before .before in
+    let start = c .before .before .before .before .before .before .before in
     let loop = c .before .loop in
     let test = c .loop-test in
     omega (arith, start .pre .all, test .taken)
 
 element-copy-out-e : tie.Need-element-copy-out-e Inv-loop μ-loop
 element-copy-out-e c =
-    let start = c .before .before .before .before in
+    let start = c .before .before .before .before .before .before .before in
     let loop = c .before .loop in
     let test = c .loop-test in
     omega (arith, start .pre .all, start .pre .long, test .taken)
@@ -107,25 +107,25 @@ wide-requires c κs =
 
 add-p : tie.Need-add-p Inv-loop μ-loop
 add-p c =
-    let start = c .before .before .before .before .before .before in
+    let start = c .before .before .before .before .before .before .before .before .before in
     let loop = c .before .before .before .loop in
     let test = c .before .before .loop-test in
     omega (arith, start .pre .all, test .taken)
 
 code-at-requires : tie.Need-code-at-requires Inv-loop μ-loop
 code-at-requires c κs =
-    let start = c .before .before .before .before .before .before .before in
-    start .pre .few
+    let start = c .before .before .before .before .before .before .before .before .before .before in
+    start .pre .ready .holding .few
 
 sub-unary : tie.Need-sub-unary Inv-loop μ-loop
 sub-unary c =
-    let start = c .before .before .before .before .before .before .before .before .before in
+    let start = c .before .before .before .before .before .before .before .before .before .before .before .before in
     let loop = c .before .before .before .before .before .before .loop in
     omega (arith, unary-finds (found-unary (c .before .before)) (start .pre .value) (start .pre .gives))
 
 unary-requires : tie.Need-unary-requires Inv-loop μ-loop
 unary-requires c κs =
-    let start = c .before .before .before .before .before .before .before .before .before in
+    let start = c .before .before .before .before .before .before .before .before .before .before .before .before in
     let loop = c .before .before .before .before .before .before .loop in
     let finds = unary-finds (found-unary (c .before .before)) (start .pre .value) (start .pre .gives) in
     (omega (arith, finds .0, loop .inv .1, loop .inv .2), finds .1)
@@ -137,7 +137,7 @@ loop-less c =
 
 loop-again : tie.Need-loop-again Inv-loop μ-loop
 loop-again c =
-    let start = c .before .before .before .before .before .before .before .before .before .before .before in
+    let start = c .before .before .before .before .before .before .before .before .before .before .before .before .before .before in
     let loop = c .before .before .before .before .before .before .before .before .loop in
     let test = c .before .before .before .before .before .before .before .loop-test in
     let left = c .before .unary .ensures (start .args .expr .now) (start .args .table .now) in (
@@ -149,8 +149,8 @@ loop-again c =
 
 code-at-requires-2 : tie.Need-code-at-requires-2 Inv-loop μ-loop
 code-at-requires-2 c κs =
-    let start = c .before .before .before .before .before .before .before in
-    start .pre .few
+    let start = c .before .before .before .before .before .before .before .before .before .before in
+    start .pre .ready .holding .few
 
 is-primary-requires : tie.Need-is-primary-requires Inv-loop μ-loop
 is-primary-requires c κs =
@@ -158,23 +158,23 @@ is-primary-requires c κs =
 
 token-at-requires : tie.Need-token-at-requires Inv-loop μ-loop
 token-at-requires c κs =
-    let start = c .before .before .before .before .before .before .before .before .before .before in
-    (start .pre .few, primary-inside (ended (start .args .codes .now) (start .args .n .0)) (c .before .before .before .before .wide .result) (ap isPrimary (sym (c .before .before .code-at2 .ensures)) ∙ sym (c .before .is-primary .ensures) ∙ c .if2 .taken))
+    let start = c .before .before .before .before .before .before .before .before .before .before .before .before .before in
+    (start .pre .ready .holding, primary-inside (ended (start .args .codes .now) (start .args .n .0)) (c .before .before .before .before .wide .result) (ap isPrimary (sym (c .before .before .code-at2 .ensures)) ∙ sym (c .before .is-primary .ensures) ∙ c .if2 .taken))
 
 of-primary-requires : tie.Need-of-primary-requires Inv-loop μ-loop
 of-primary-requires c κs =
-    let start = c .before .before .before .before .before .before .before .before .before .before .before .before in
-    start .pre .sound
+    let start = c .before .before .before .before .before .before .before .before .before .before .before .before .before .before .before in
+    start .pre .ready .sound
 
 store-requires : tie.Need-store-requires Inv-loop μ-loop
 store-requires c κs =
-    let start = c .before .before .before .before .before .before .before .before .before .before .before .before .before in
+    let start = c .before .before .before .before .before .before .before .before .before .before .before .before .before .before .before .before in
     let loop = c .before .before .before .before .before .before .before .before .before .before .loop in
     omega (arith, operand-room (found-operand (c .before .before .before)) (start .pre .value) (start .pre .gives), loop .inv .2)
 
 add-top : tie.Need-add-top Inv-loop μ-loop
 add-top c =
-    let start = c .before .before .before .before .before .before .before .before .before .before .before .before .before .before .before in
+    let start = c .before .before .before .before .before .before .before .before .before .before .before .before .before .before .before .before .before .before in
     let loop = c .before .before .before .before .before .before .before .before .before .before .before .before .loop in
     omega (arith, operand-room (found-operand (c .before .before .before .before .before)) (start .pre .value) (start .pre .gives))
 
@@ -185,7 +185,7 @@ loop-less-2 c =
 
 loop-again-2 : tie.Need-loop-again-2 Inv-loop μ-loop
 loop-again-2 c =
-    let start = c .before .before .before .before .before .before .before .before .before .before .before .before .before .before .before in
+    let start = c .before .before .before .before .before .before .before .before .before .before .before .before .before .before .before .before .before .before in
     let loop = c .before .before .before .before .before .before .before .before .before .before .before .before .loop in
     let test = c .before .before .before .before .before .before .before .before .before .before .before .loop-test in
     let left = c .before .store .ensures (start .args .expr .now) (start .args .table .now) in
@@ -199,20 +199,20 @@ loop-again-2 c =
 
 sub-choice : tie.Need-sub-choice Inv-loop μ-loop
 sub-choice c =
-    let start = c .before .before .before .before .before .before .before .before .before .before .before .before .before in
+    let start = c .before .before .before .before .before .before .before .before .before .before .before .before .before .before .before .before in
     let loop = c .before .before .before .before .before .before .before .before .before .before .loop in
     omega (arith, choice-finds (found-choice (c .before)) (start .pre .value) (start .pre .gives))
 
 choice-requires : tie.Need-choice-requires Inv-loop μ-loop
 choice-requires c κs =
-    let start = c .before .before .before .before .before .before .before .before .before .before .before .before .before in
+    let start = c .before .before .before .before .before .before .before .before .before .before .before .before .before .before .before .before in
     let loop = c .before .before .before .before .before .before .before .before .before .before .loop in
     let finds = choice-finds (found-choice (c .before)) (start .pre .value) (start .pre .gives) in
     (omega (arith, finds .0, loop .inv .1, loop .inv .2), finds .1)
 
 sub-top : tie.Need-sub-top Inv-loop μ-loop
 sub-top c =
-    let start = c .before .before .before .before .before .before .before .before .before .before .before .before .before .before .before in
+    let start = c .before .before .before .before .before .before .before .before .before .before .before .before .before .before .before .before .before .before in
     let loop = c .before .before .before .before .before .before .before .before .before .before .before .before .loop in
     omega (arith, choice-finds (found-choice (c .before .before .before)) (start .pre .value) (start .pre .gives))
 
@@ -223,7 +223,7 @@ loop-less-3 c =
 
 loop-again-3 : tie.Need-loop-again-3 Inv-loop μ-loop
 loop-again-3 c =
-    let start = c .before .before .before .before .before .before .before .before .before .before .before .before .before .before .before in
+    let start = c .before .before .before .before .before .before .before .before .before .before .before .before .before .before .before .before .before .before in
     let loop = c .before .before .before .before .before .before .before .before .before .before .before .before .loop in
     let test = c .before .before .before .before .before .before .before .before .before .before .before .loop-test in
     let left = c .before .choice .ensures (start .args .expr .now) (start .args .table .now) in (
@@ -235,20 +235,20 @@ loop-again-3 c =
 
 sub-binary : tie.Need-sub-binary Inv-loop μ-loop
 sub-binary c =
-    let start = c .before .before .before .before .before .before .before .before .before .before .before .before .before in
+    let start = c .before .before .before .before .before .before .before .before .before .before .before .before .before .before .before .before in
     let loop = c .before .before .before .before .before .before .before .before .before .before .loop in
     omega (arith, binary-finds (found-binary (c .before)) (start .pre .value) (start .pre .gives))
 
 binary-requires : tie.Need-binary-requires Inv-loop μ-loop
 binary-requires c κs =
-    let start = c .before .before .before .before .before .before .before .before .before .before .before .before .before in
+    let start = c .before .before .before .before .before .before .before .before .before .before .before .before .before .before .before .before in
     let loop = c .before .before .before .before .before .before .before .before .before .before .loop in
     let finds = binary-finds (found-binary (c .before)) (start .pre .value) (start .pre .gives) in
     (omega (arith, finds .0, loop .inv .1, loop .inv .2), finds .1)
 
 sub-top-2 : tie.Need-sub-top-2 Inv-loop μ-loop
 sub-top-2 c =
-    let start = c .before .before .before .before .before .before .before .before .before .before .before .before .before .before .before in
+    let start = c .before .before .before .before .before .before .before .before .before .before .before .before .before .before .before .before .before .before in
     let loop = c .before .before .before .before .before .before .before .before .before .before .before .before .loop in
     omega (arith, binary-finds (found-binary (c .before .before .before)) (start .pre .value) (start .pre .gives))
 
@@ -259,7 +259,7 @@ loop-less-4 c =
 
 loop-again-4 : tie.Need-loop-again-4 Inv-loop μ-loop
 loop-again-4 c =
-    let start = c .before .before .before .before .before .before .before .before .before .before .before .before .before .before .before in
+    let start = c .before .before .before .before .before .before .before .before .before .before .before .before .before .before .before .before .before .before in
     let loop = c .before .before .before .before .before .before .before .before .before .before .before .before .loop in
     let test = c .before .before .before .before .before .before .before .before .before .before .before .loop-test in
     let left = c .before .binary .ensures in (
@@ -282,7 +282,7 @@ loop-again-5 c =
 
 load-requires : tie.Need-load-requires Inv-loop μ-loop
 load-requires c κs =
-    let start = c .before .before .before .before .before in
+    let start = c .before .before .before .before .before .before .before .before in
     let loop = c .before .before .loop in
     let test = c .before .loop-test in
     let one = alone (start .args .expr .now) (start .args .table .now) (loop .waiting) (loop .top) (start .pre .value) (closed (omega (arith, test .left, loop .inv .0)) (loop .inv .3) (start .pre .value) (start .pre .gives)) in
@@ -295,7 +295,7 @@ same-length c =
 
 returns : tie.Need-returns Inv-loop μ-loop
 returns c =
-    let start = c .before .before .before .before .before .before in
+    let start = c .before .before .before .before .before .before .before .before .before in
     let loop = c .before .before .before .loop in
     let test = c .before .before .loop-test in
     λ v g. ap (known (start .args .expr .now) (start .args .table .now)) (c .load .ensures) ∙ alone (start .args .expr .now) (start .args .table .now) (loop .waiting) (loop .top) v (closed (omega (arith, test .left, loop .inv .0)) (loop .inv .3) v g) .1

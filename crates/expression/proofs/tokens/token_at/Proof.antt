@@ -10,20 +10,20 @@ element-copy-out-t10 c = search needs
 mul-t11 : tie.Need-mul-t11
 mul-t11 c = search needs
 
-element-copy-out-t14 : tie.Need-element-copy-out-t14
-element-copy-out-t14 c = search needs
+shared-slice-read-t13 : tie.Need-shared-slice-read-t13
+shared-slice-read-t13 c = search needs
 
-mul-t15 : tie.Need-mul-t15
-mul-t15 c = search needs
+mul-t14 : tie.Need-mul-t14
+mul-t14 c = search needs
 
-element-copy-out-t18 : tie.Need-element-copy-out-t18
-element-copy-out-t18 c = search needs
+shared-slice-read-t16 : tie.Need-shared-slice-read-t16
+shared-slice-read-t16 c = search needs
 
-mul-t19 : tie.Need-mul-t19
-mul-t19 c = search needs
+mul-t17 : tie.Need-mul-t17
+mul-t17 c = search needs
 
-element-copy-out-t22 : tie.Need-element-copy-out-t22
-element-copy-out-t22 c = search needs
+shared-slice-read-t19 : tie.Need-shared-slice-read-t19
+shared-slice-read-t19 c = search needs
 
 returns : tie.Need-returns
 returns c = rw (lt-ltb _ _ (c .before .before .before .before .pre .1))
@@ -34,9 +34,9 @@ token-at-spec =
     (tie.spec
     element-copy-out-t10
     mul-t11
-    element-copy-out-t14
-    mul-t15
-    element-copy-out-t18
-    mul-t19
-    element-copy-out-t22
+    shared-slice-read-t13
+    mul-t14
+    shared-slice-read-t16
+    mul-t17
+    shared-slice-read-t19
     returns)

@@ -1,0 +1,81 @@
+-- The scan left the tokens in the arrays, so the answer to the arrays is the answer to the tokens.
+use mathlib.Core.Path.{sym, _∙_}
+use borrow.Author.Needs.{needs}
+use Rattle.evaluation.specs.Evaluation.{inSoundTable}
+use Rattle.evaluation.proofs.Arrays.{holding, answers}
+use Rattle.evaluation.proofs.outcome.in_room.Statement.{statement}
+use Rattle.evaluation.proofs.outcome.in_room.Tie as tie
+
+tokens-requires : tie.Need-tokens-requires
+tokens-requires c κs =
+    c .before .before .before .before .before .before .before .before .before .pre .1
+
+enum-known-ending : tie.Need-enum-known-ending
+enum-known-ending c =
+    search needs
+
+enum-told : tie.Need-enum-told
+enum-told c =
+    search needs
+
+conclude-requires : tie.Need-conclude-requires
+conclude-requires c κs =
+    let start = c .before .before .before .before .before .before .before .before .before .before .before .before .before .before .before .before .before .before .before .before .before .before .before in
+    let a = start .args in
+    let scan = c .before .before .before .before .before .before .before .before .before .before .before .before .before .tokens in
+    record { sound = start .pre .0; holding = holding (a .expr .now) (a .table .now) (a .codes .now) (a .starts .now) (a .lens .now) (a .values .now) (scan .last .0) (scan .last .1 .0) (scan .last .1 .1 .0) (scan .last .1 .1 .1 .0) (start .pre .1) (scan .ensures .tokens) _ (scan .ensures .count) }
+
+same-length : tie.Need-same-length
+same-length c =
+    search needs
+
+same-length-2 : tie.Need-same-length-2
+same-length-2 c =
+    search needs
+
+same-length-3 : tie.Need-same-length-3
+same-length-3 c =
+    search needs
+
+returns : tie.Need-returns
+unfolding inSoundTable
+returns c =
+    let scan = c .before .before .before .before .before .before .before .before .before .before .tokens in
+    rw (← scan .ensures .ending, c .before .ending .given .1)
+
+same-length-4 : tie.Need-same-length-4
+same-length-4 c =
+    search needs
+
+same-length-5 : tie.Need-same-length-5
+same-length-5 c =
+    search needs
+
+same-length-6 : tie.Need-same-length-6
+same-length-6 c =
+    search needs
+
+returns-2 : tie.Need-returns-2
+returns-2 c =
+    let start = c .before .before .before .before .before .before .before .before .before .before .before .before .before .before .before .before .before .before .before .before .before .before .before .before in
+    let a = start .args in
+    let scan = c .before .before .before .before .before .before .before .before .before .before .before .before .before .before .tokens in
+    let whole = sym (scan .ensures .ending) ∙ c .before .before .before .before .before .enum-told .given .1 in
+    c .conclude .ensures ∙ answers (a .expr .now) (a .table .now) (a .codes .now) (a .starts .now) (a .lens .now) (a .values .now) (scan .last .0) (scan .last .1 .0) (scan .last .1 .1 .0) (scan .last .1 .1 .1 .0) (start .pre .1) (scan .ensures .tokens) _ (scan .ensures .count) whole
+
+pub in-room-spec : {M : Type 1} → statement M
+in-room-spec =
+    tie.close
+    (tie.spec
+    tokens-requires
+    enum-known-ending
+    enum-told
+    conclude-requires
+    same-length
+    same-length-2
+    same-length-3
+    returns
+    same-length-4
+    same-length-5
+    same-length-6
+    returns-2)
