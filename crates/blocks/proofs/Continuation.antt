@@ -1,4 +1,4 @@
--- A run that goes on behind lines of which the meaning is known. Assumes nothing.
+-- A run that continues after lines whose meaning is known. Assumes nothing.
 use Prim.Native.Nat.{ℕ, _+_}
 use native.Mathlib.Nat.{add-zero, add-assoc}
 use mathlib.Core.Path.{_≡_, refl, sym, ap, _∙_}
@@ -46,11 +46,3 @@ follow-then n k (fault r i) b f = refl
 
 pub follow-single : (n k m c : ℕ) (b : Meaning) (f : ℕ → ℕ → Result) → follow n k (single m c then b) f ≡ prepend m (follow (n + 1) (k + c) b f)
 follow-single n k m c b f = follow-then n k (single m c) b f
-
--- the line of a branch, its body, the other branches, and what stands behind the group
-pub follow-branch : (n k m c : ℕ) (a b d : Meaning) (f : ℕ → ℕ → Result)
-    → follow n k ((single m c then a then b) then d) f ≡ prepend m (follow (n + 1) (k + c) a (λ n′ k′. follow n′ k′ b (λ n″ k″. follow n″ k″ d f)))
-follow-branch n k m c a b d f =
-    follow-then n k (single m c then a then b) d f
-    ∙ follow-single n k m c (a then b) (λ n″ k″. follow n″ k″ d f)
-    ∙ ap (prepend m) (follow-then (n + 1) (k + c) a b (λ n″ k″. follow n″ k″ d f))

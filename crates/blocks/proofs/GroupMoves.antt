@@ -1,4 +1,4 @@
--- How a line that the machine passes changes which groups are open, whatever its text says. Assumes nothing.
+-- How a line that a run passes changes which groups are open, whatever its text says. Assumes nothing.
 use Prim.Native.Nat.{ℕ, suc, _≤_}
 use native.Mathlib.Omega.{arith}
 use mathlib.Core.Path.{_≡_, refl, sym, ap, _∙_}
@@ -23,7 +23,7 @@ use Rattle.blocks.specs.Blocks.{opens}
 use Rattle.blocks.proofs.StepByWord.{Inside}
 use Rattle.blocks.proofs.MayFollow.{Front, Others, After, None, Rest, before-plain, before-opening, before-elseif, before-else, before-endif}
 
--- of each open group, whether its `!else` was met
+-- of each open group, whether its `!else` was seen
 abbrev pub flags : List Group → List Bool
 flags [] = []
 flags (group s b n ∷ gs) = b ∷ flags gs
@@ -66,7 +66,7 @@ started-opens Else n ns o = absurd (false≢true o)
 started-opens Endif n ns o = absurd (false≢true o)
 started-opens Unknown n ns o = absurd (false≢true o)
 
--- what may follow after a line that stands in a group may follow with it before
+-- what may follow after a line inside a group may follow before it, with the line in front
 abbrev pub Some : List Bool → Type 0
 Some [] = ⊥
 Some (b ∷ fs) = Unit
@@ -83,7 +83,7 @@ moved-in most End l ls (turn {fs}) e i h k r = before-elseif most (length fs) l 
 moved-in most End l ls (final {fs}) e i h k r = before-else most (length fs) l ls (After most End fs) e r
 moved-in most End l ls (leave {b} {fs}) e i h k r = before-endif most (length fs) l ls (After most End fs) b e h r
 
--- and so where it stands in none
+-- and so for a line outside all groups
 pub moved-back : (most : ℕ) {d : Directive} {fs gs : List Bool} (l : List ℕ) (ls : List (List ℕ)) → Moves d fs gs → directiveOf l ≡ d
     → length fs ≤ most → length gs ≤ most → Rest most gs ls → Rest most fs (l ∷ ls)
 moved-back most l ls (stay {fs = []}) e h k r = before-plain most 0 l ls None e r
@@ -94,7 +94,7 @@ moved-back most l ls (turn {fs}) e h k r = moved-in most (Front most 0 None) l l
 moved-back most l ls (final {fs}) e h k r = moved-in most (Front most 0 None) l ls (final {fs = fs}) e tt h k r
 moved-back most l ls (leave {b} {fs}) e h k r = moved-in most (Front most 0 None) l ls (leave {b = b} {fs = fs}) e tt h k r
 
--- every open group stands in one of the four ways of an open group
+-- no open group has the standing of a line outside all groups
 abbrev pub Proper : List Group → Type 0
 Proper [] = Unit
 Proper (group s b n ∷ gs) = Inside s × Proper gs

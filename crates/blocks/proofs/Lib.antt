@@ -1,3 +1,4 @@
+pub mod Passing
 pub mod Continuation
 pub mod StepByWord
 pub mod RunMeaning
@@ -12,7 +13,11 @@ pub mod NextLine
 pub mod PassedLines
 pub mod Stray
 pub mod Unfinished
+pub mod Stops
 pub mod StrayLine
 pub mod TwoElses
 pub mod OneInnermost
 pub mod TooDeep
+pub mod FaultNumbers
+pub mod PassableLines
+pub mod Refused

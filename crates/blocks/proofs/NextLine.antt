@@ -1,4 +1,4 @@
--- What may follow goes on as its first line says. Assumes nothing.
+-- What may follow, by its first line: how that line changes the open groups, and what may follow after it. Assumes nothing.
 use Prim.Native.Nat.{ℕ, suc, _+_, _≤_}
 use native.Mathlib.Omega.{arith}
 use mathlib.Core.Path.{_≡_, refl, sym, ap, _∙_, subst}
@@ -12,7 +12,7 @@ use Rattle.blocks.proofs.MayFollow.{Allowed, Front, Others, None, Rest}
 use Rattle.blocks.proofs.GroupMoves.{Moves, stay, enter, turn, final, leave}
 
 module _ (most d : ℕ) (l : List ℕ) (ls : List (List ℕ)) (Next : List (List ℕ) → Type 0) (R : Type 0) where
-  -- the first line of blocks, or of what is behind them
+  -- the first line of blocks, or of what comes after them
   front-ahead : Front most d Next (l ∷ ls)
       → (directiveOf l ≡ Plain → Front most d Next ls → R)
       → (opens (directiveOf l) ≡ true → Front most (suc d) (Others most d false (Front most d Next)) ls → R)

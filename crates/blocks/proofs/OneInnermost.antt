@@ -13,7 +13,7 @@ use Rattle.line.specs.declared.Directive.{Directive}
 use Rattle.line.specs.declared.Directive.the-variants.{Plain, Elseif, Else, Endif}
 use Rattle.blocks.specs.Blocks.{Blocks, empty, line, group, Branches, endif, elseif, else, linesOf, linesIn, Fits, FitsIn, Derives, depth}
 use Rattle.blocks.specs.Beginnings.{Whole, Innermost}
-use Rattle.blocks.specs.Misplaced.{OneInnermost}
+use Rattle.blocks.specs.Refused.{OneInnermost}
 use Rattle.blocks.proofs.Unambiguous.{place, place-opens, same-blocks, same-branches, stops-in}
 use Rattle.blocks.proofs.MayFollow.{Rest, nothing-left}
 use Rattle.blocks.proofs.GroupMoves.{Moves, stay, enter, turn, final, leave}
@@ -22,7 +22,7 @@ use Rattle.blocks.proofs.PassedLines.{Walk, moves-same, walk-back, an-e
 use Rattle.blocks.proofs.Stray.{whole-rest, rest-whole}
 use Rattle.blocks.proofs.Unfinished.{no-rest}
 
--- what may follow goes on behind a line that moves the groups so
+-- what may follow after a line that changes the open groups so
 pub along : (most : ℕ) (l : List ℕ) (ls : List (List ℕ)) (d : Directive) (fs gs : List Bool) → directiveOf l ≡ d → Moves d fs gs → Rest most fs (l ∷ ls)
     → Rest most gs ls
 along most l ls d fs gs e m r =

@@ -1,5 +1,5 @@
--- Lines that the machine passes, by the open groups alone: with what may follow after them, they may follow before; and what may follow
--- before goes on behind them. Assumes nothing.
+-- Lines that a run passes, by the open groups alone: what may follow after them may follow before them, with these lines in front, and the
+-- other way round. Assumes nothing.
 use Prim.Native.Nat.{ℕ, suc, _+_, _≤_}
 use native.Mathlib.Omega.{arith}
 use mathlib.Core.Path.{_≡_, refl, sym, ap}
@@ -13,9 +13,9 @@ use Rattle.line.specs.Directives.{named, wordStart, directiveOf}
 use Rattle.line.specs.declared.Directive.{Directive}
 use Rattle.line.specs.declared.Directive.the-variants.{Endif}
 use Rattle.nesting.specs.Decide.{State}
-use Rattle.blocks.specs.Beginnings.{Passes}
+use Rattle.blocks.proofs.Passing.{Passes}
 use Rattle.blocks.proofs.MayFollow.{Rest, nothing-left, before-endif}
-use Rattle.blocks.proofs.GroupMoves.{flags, Moves, stay, enter, turn, final, leave, moved-back, Proper}
+use Rattle.blocks.proofs.GroupMoves.{flags, flags-length, Moved, Moves, stay, enter, turn, final, leave, moved-back, Proper}
 use Rattle.blocks.proofs.AcceptedBlocks.{passed}
 use Rattle.blocks.proofs.NextLine.{ahead}
 
@@ -70,11 +70,14 @@ pub an-endif : directiveOf (bytes "!endif") ≡ Endif
 unfolding named wordStart directiveOf span compared classOf
 an-endif = refl
 
-pub completed : (most : ℕ) (fs : List Bool) → length fs ≤ most → (more : List (List ℕ)) × Rest most fs more
-completed most [] h = ([], nothing-left most)
+abbrev pub closers : List Bool → List (List ℕ)
+closers [] = []
+closers (b ∷ fs) = bytes "!endif" ∷ closers fs
+
+pub completed : (most : ℕ) (fs : List Bool) → length fs ≤ most → Rest most fs (closers fs)
+completed most [] h = nothing-left most
 completed most (b ∷ fs) h =
-    let c = completed most fs (omega arith) in
-    (bytes "!endif" ∷ c .0, before-endif most (length fs) (bytes "!endif") (c .0) (Rest most fs) b an-endif h (c .1))
+    before-endif most (length fs) (bytes "!endif") (closers fs) (Rest most fs) b an-endif h (completed most fs (omega arith))
 
 module _ (t : List ℕ) where
   pub passes-walk : (ls : List (List ℕ)) (n : ℕ) (s s′ : State) → Passes t n s ls s′ → Walk (flags (s .groups)) ls (flags (s′ .groups))
@@ -82,7 +85,17 @@ module _ (t : List ℕ) where
   passes-walk (l ∷ ls) n s s′ p =
       (flags (p .1 .groups), passed t n s l (p .0) (p .1) (p .2) .1 .moves, passes-walk ls (n + 1) (p .1) s′ (p .3))
 
-  -- and the open groups stand as open groups do, 16 at most
+  -- no open group then has the standing of a line outside all groups
   pub passes-proper : (ls : List (List ℕ)) (n : ℕ) (s s′ : State) → Passes t n s ls s′ → Proper (s .groups) → Proper (s′ .groups)
   passes-proper [] n s s′ e h = rw (sym e) h
   passes-proper (l ∷ ls) n s s′ p h = passes-proper ls (n + 1) (p .1) s′ (p .3) (passed t n s l (p .0) (p .1) (p .2) .1 .proper h)
+
+-- the first with the limit of 16 groups
+pub passes-back : (t : List ℕ) (ls : List (List ℕ)) (n : ℕ) (s s′ : State) (more : List (List ℕ)) → Passes t n s ls s′ → length (s .groups) ≤ 16
+    → (length (s′ .groups) ≤ 16) × (Rest 16 (flags (s′ .groups)) more → Rest 16 (flags (s .groups)) (ls ++ more))
+passes-back t [] n s s′ more e h = (rw (sym e) h, λ r. rw e r)
+passes-back t (l ∷ ls) n s s′ more p h =
+    let v : Moved (directiveOf l) n (s .groups) (p .1 .groups) = passed t n s l (p .0) (p .1) (p .2) .1 in
+    let k = v .few h in
+    let b = passes-back t ls (n + 1) (p .1) s′ more (p .3) k in
+    (b .0, λ r. moved-back 16 l (ls ++ more) (v .moves) refl (omega (arith, flags-length (s .groups))) (omega (arith, flags-length (p .1 .groups))) (b .1 r))

@@ -1,4 +1,4 @@
--- A run over the lines of blocks goes as their meaning says, whatever groups are open around them and whatever lines come behind.
+-- A run over the lines of blocks gives what these mean, whatever groups are open around them and whatever lines come after them.
 -- Assumes nothing.
 use Prim.Native.Nat.{ℕ, suc, _+_, _≤_}
 use native.Mathlib.Omega.{arith}
@@ -54,7 +54,7 @@ module _ (t : List ℕ) where
   abbrev BodyGoes : List Group → Blocks → Type 0
   BodyGoes gs bs = (ls : List (List ℕ)) → GoesAs gs (linesOf bs ++ ls) (meaning t (live (standingOf gs)) bs) (λ n k. run t n (state gs k) ls)
 
-  -- a line that begins a branch, its body, and what is behind
+  -- a line that begins a branch, its body, and what comes after it
   module _ (n k : ℕ) (s : State) (l : List ℕ) (body : Blocks) (behind : List (List ℕ)) (a : Meaning) (f : ℕ → ℕ → Result) where
     branch-goes : (gs : List Group) (m j : ℕ) → step t n s l ≡ go m (state gs (k + j)) → BodyGoes gs body → GoesAs gs behind a f
         → run t n s (l ∷ (linesOf body ++ behind)) ≡ follow n k (single m j then meaning t (live (standingOf gs)) body then a) f
@@ -65,13 +65,13 @@ module _ (t : List ℕ) where
         ∙ sym (follow-then (n + 1) (k + j) (meaning t (live (standingOf gs)) body) a f))
         ∙ sym (follow-single n k m j (meaning t (live (standingOf gs)) body then a) f)
 
-  -- a directive in an open group is decided by how the group stands and what its text says
+  -- a directive in an open group is decided by the standing of the group and what its text says
   abbrev Decided : Directive → Condition → (n k : ℕ) → Standing → (closed : Bool) → (m : ℕ) → List Group → List ℕ → Type 0
   Decided d c n k s b m gs l =
       step t n (state (entry s b m ∷ gs) k) l ≡ decided d (hears (reads d s) c) n (k + countOf (hears (reads d s) c)) (entry s b m ∷ gs)
 
   -- an `!endif`
-  end-goes : (s : Standing) (b : Bool) (m : ℕ) (gs : List Group) (l : List ℕ) (ls : List (List ℕ)) → Inside s → directiveOf l ≡ Endif → length l ≤ 1024
+  pub end-goes : (s : Standing) (b : Bool) (m : ℕ) (gs : List Group) (l : List ℕ) (ls : List (List ℕ)) → Inside s → directiveOf l ≡ Endif → length l ≤ 1024
       → GoesAs (entry s b m ∷ gs) (l ∷ ls) (closing (around s) (says t Endif (textOf l))) (λ n k. run t n (state gs k) ls)
   unfolding decided reads endRuling
   end-goes s b m gs l ls i e h n k = by s i (says t Endif (textOf l)) (step-word t n k (entry s b m ∷ gs) l h Endif e)

@@ -21,7 +21,7 @@ use Rattle.select.specs.Step.{heard, step}
 use Rattle.select.proofs.Steps.{decided-step}
 use Rattle.blocks.specs.Blocks.{opens}
 
--- a group whose `!if` was met: where the branch around it is taken, by what the `!if` says
+-- an opening line, by whether the branch around its group is taken and by what its text says
 abbrev pub begun : Bool → Condition → (n k : ℕ) → List Group → Outcome
 begun false c n k gs = go 2 (state (group Dead false n ∷ gs) (k + 0))
 begun true (Holds j) n k gs = go 4 (state (group Taken false n ∷ gs) (k + j))

@@ -1,4 +1,4 @@
--- Refusal 19 by the words alone. Assumes nothing.
+-- Refusal 19 by blocks: a line that is refused so is one with which the lines begin no blocks. Assumes nothing.
 use Prim.Native.Nat.{ℕ, _+_, _≤_}
 use native.Mathlib.Omega.{arith}
 use mathlib.Core.Path.{_≡_, refl, sym, _∙_}
@@ -17,13 +17,13 @@ use Rattle.select.specs.Step.{heard, step}
 use Rattle.select.specs.Select.{start}
 use Rattle.select.proofs.Steps.{decided-step}
 use Rattle.blocks.specs.Blocks.{Blocks, opens, Derives, depth}
-use Rattle.blocks.specs.Beginnings.{Whole, Begins, Passes}
-use Rattle.blocks.specs.Misplaced.{Stray}
+use Rattle.blocks.specs.Beginnings.{Whole, Begins}
+use Rattle.blocks.proofs.Passing.{Passes, Stray}
 use Rattle.blocks.proofs.MayFollow.{Rest}
 use Rattle.blocks.proofs.GroupMoves.{flags, Moves, stay, enter, turn, final, leave, Can, Moving, decided-moves}
 use Rattle.blocks.proofs.TextFaults.{never-own}
 use Rattle.blocks.proofs.NextLine.{ahead}
-use Rattle.blocks.proofs.PassedLines.{Walk, walk-back, walk-ahead, walk-append, completed, passes-walk, passes-proper}
+use Rattle.blocks.proofs.PassedLines.{Walk, walk-back, walk-ahead, walk-append, closers, completed, passes-walk, passes-proper}
 
 -- blocks as what may follow where no group is open, and back
 pub whole-rest : (ls : List (List ℕ)) (bs : Blocks) → Derives ls bs → Rest (depth bs) [] ls
@@ -36,8 +36,7 @@ rest-whole most ls r = (r .blocks, record { lines = r .lines ∙ rw (r .next, ap
 pub walk-begins : (ls : List (List ℕ)) (gs : List Bool) → Walk [] ls gs → Begins ls
 walk-begins ls gs w =
     let most : ℕ = length ls + length gs in
-    let c = completed most gs (omega arith) in
-    (c .0, rest-whole most (ls ++ c .0) (walk-back most ls [] gs (c .0) (omega arith) w (c .1)))
+    (closers gs, rest-whole most (ls ++ closers gs) (walk-back most ls [] gs (closers gs) (omega arith) w (completed most gs (omega arith))))
 
 -- a line that moves the groups is one that they and its word let pass
 moves-can : {d : Directive} {fs gs : List Bool} → Moves d fs gs → Can d fs
@@ -59,7 +58,7 @@ moves-can leave = tt
 
 -- any other line is refused 19, whatever its text says
 module _ (c : Condition) (n k : ℕ) (R : Type 0) where
-  move-or-stray : (d : Directive) → (d ≡ Unknown → ⊥) → (gs : List Group) → ((hs : List Bool) → Moves d (flags gs) hs → R)
+  pub move-or-stray : (d : Directive) → (d ≡ Unknown → ⊥) → (gs : List Group) → ((hs : List Bool) → Moves d (flags gs) hs → R)
       → (decided d c n k gs ≡ stop 19 → R) → R
   unfolding decided elseifRuling elseRuling endRuling
   move-or-stray Plain u gs f g = f (flags gs) stay
@@ -89,7 +88,7 @@ module _ (t : List ℕ) (ls : List (List ℕ)) (s : State) (p : Passes t 1 start
       (walk-ahead (depth (b .1 .0)) ls [] (flags (s .groups)) (l ∷ b .0) walked (whole-rest _ (b .1 .0) d)) in
       (a .0, a .1)
 
-  moves-begins : (l : List ℕ) (gs : List Bool) → Moves (directiveOf l) (flags (s .groups)) gs → Begins (ls ++ (l ∷ []))
+  pub moves-begins : (l : List ℕ) (gs : List Bool) → Moves (directiveOf l) (flags (s .groups)) gs → Begins (ls ++ (l ∷ []))
   moves-begins l gs m = walk-begins (ls ++ (l ∷ [])) gs (walk-append ls (l ∷ []) [] (flags (s .groups)) gs walked (gs, m, refl))
 
   module _ (n : ℕ) (l : List ℕ) (short : length l ≤ 1024) where

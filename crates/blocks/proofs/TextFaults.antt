@@ -50,7 +50,7 @@ use Rattle.ruling.specs.Standings.{reads}
 use Rattle.nesting.specs.Groups.{Group, standingOf}
 use Rattle.select.specs.Step.{heard}
 
-abbrev Other-than : ℕ → Type 0
+abbrev pub Other-than : ℕ → Type 0
 Other-than r = 17 ≤ r → r ≤ 21 → ⊥
 
 -- a token
@@ -196,7 +196,7 @@ in-answer e t = by (reading e .ending) (in-reading e)
     by Complete h = parsed (parse codeOf (meaning e t) (tokenIn (reading e .tokens)) (length (reading e .tokens))) refl
 
 -- a condition
-abbrev InCondition : Condition → Type 0
+abbrev pub InCondition : Condition → Type 0
 InCondition (Holds n) = Unit
 InCondition (Fails n) = Unit
 InCondition (Wrong r) = Other-than r
@@ -226,7 +226,7 @@ in-name t wanted s = pick-case InCondition (spaced s) (λ _. in-named t wanted (
 in-nothing : (s : List ℕ) → InCondition (pick (idle s) (Holds 0) (Wrong 22))
 in-nothing s = pick-case InCondition (idle s) (λ _. tt) (λ _ a b. omega arith)
 
-in-says : (t : List ℕ) (d : Directive) (s : List ℕ) → InCondition (says t d s)
+pub in-says : (t : List ℕ) (d : Directive) (s : List ℕ) → InCondition (says t d s)
 unfolding says
 in-says t Plain s = tt
 in-says t If s = in-expression t s

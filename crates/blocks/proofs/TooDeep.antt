@@ -1,4 +1,4 @@
--- Refusal 20 by the words alone. Assumes nothing.
+-- Refusal 20 by blocks: a line that is refused so is one with which the lines begin only blocks more than 16 deep. Assumes nothing.
 use Prim.Native.Nat.{ℕ, _+_, _≤_, _<_}
 use native.Mathlib.Omega.{arith}
 use mathlib.Core.Path.{_≡_, refl, sym, ap, _∙_}
@@ -22,18 +22,15 @@ use Rattle.select.specs.Step.{heard, step}
 use Rattle.select.specs.Select.{start}
 use Rattle.select.proofs.Steps.{decided-step}
 use Rattle.blocks.specs.Blocks.{Blocks, opens, Derives, depth}
-use Rattle.blocks.specs.Beginnings.{Passes}
-use Rattle.blocks.specs.Misplaced.{TooDeep}
-use Rattle.blocks.proofs.MayFollow.{Rest}
-use Rattle.blocks.proofs.GroupMoves.{flags, flags-length, Moved, enter, moved-back}
-use Rattle.blocks.proofs.AcceptedBlocks.{passed}
+use Rattle.blocks.proofs.Passing.{Passes}
+use Rattle.blocks.proofs.GroupMoves.{flags, flags-length, enter, moved-back}
 use Rattle.blocks.proofs.TextFaults.{never-own}
-use Rattle.blocks.proofs.PassedLines.{walk-ahead, completed, passes-walk}
+use Rattle.blocks.proofs.PassedLines.{walk-ahead, closers, completed, passes-walk, passes-back}
 use Rattle.blocks.proofs.Stray.{whole-rest}
 use Rattle.blocks.proofs.OneInnermost.{along}
 
 -- with as many groups open as may be, a further one is refused 20; with fewer it is not
-full : (d : Directive) → opens d ≡ true → (c : Condition) (n k : ℕ) (gs : List Group) → 16 ≤ length gs → decided d c n k gs ≡ stop 20
+pub full : (d : Directive) → opens d ≡ true → (c : Condition) (n k : ℕ) (gs : List Group) → 16 ≤ length gs → decided d c n k gs ≡ stop 20
 unfolding decided opening
 full Plain o c n k gs h = absurd (false≢true o)
 full If o c n k gs h = rw (le-leb 16 (length gs) h)
@@ -70,22 +67,12 @@ decided-fuller Else o c n k gs = absurd (false≢true o)
 decided-fuller Endif o c n k gs = absurd (false≢true o)
 decided-fuller Unknown o c n k gs = absurd (false≢true o)
 
--- what may follow, 16 deep at most, may follow behind lines that were passed
-passes-back : (t : List ℕ) (ls : List (List ℕ)) (n : ℕ) (s s′ : State) (more : List (List ℕ)) → Passes t n s ls s′ → length (s .groups) ≤ 16
-    → (length (s′ .groups) ≤ 16) × (Rest 16 (flags (s′ .groups)) more → Rest 16 (flags (s .groups)) (ls ++ more))
-passes-back t [] n s s′ more e h = (rw (sym e) h, λ r. rw e r)
-passes-back t (l ∷ ls) n s s′ more p h =
-    let v : Moved (directiveOf l) n (s .groups) (p .1 .groups) = passed t n s l (p .0) (p .1) (p .2) .1 in
-    let k = v .few h in
-    let b = passes-back t ls (n + 1) (p .1) s′ more (p .3) k in
-    (b .0, λ r. moved-back 16 l (ls ++ more) (v .moves) refl (omega (arith, flags-length (s .groups))) (omega (arith, flags-length (p .1 .groups))) (b .1 r))
-
 module _ (t : List ℕ) (ls : List (List ℕ)) (s : State) (p : Passes t 1 start ls s) (n : ℕ) (l : List ℕ) (short : length l ≤ 1024)
     (o : opens (directiveOf l) ≡ true) where
   abbrev c : Condition
   c = heard t (s .groups) l
 
-  deeper : step t n s l ≡ stop 20 → (more : List (List ℕ)) (bs : Blocks) → Derives (ls ++ (l ∷ more)) bs → 16 < depth bs
+  pub deeper : step t n s l ≡ stop 20 → (more : List (List ℕ)) (bs : Blocks) → Derives (ls ++ (l ∷ more)) bs → 16 < depth bs
   deeper e more bs d =
       let f = decided-fuller (directiveOf l) o c n (s .count + countOf c) (s .groups) in
       let g : Fuller c (s .groups) (stop 20) = rw (sym (decided-step t n s l short) ∙ e) at f in
@@ -94,7 +81,7 @@ module _ (t : List ℕ) (ls : List (List ℕ)) (s : State) (p : Passes t 1 start
       let q = along (depth bs) l more (directiveOf l) (flags (s .groups)) (false ∷ flags (s .groups)) refl (enter o) r in
       omega (arith, q .deep, flags-length (s .groups))
 
-  refused-deep : ((more : List (List ℕ)) (bs : Blocks) → Derives (ls ++ (l ∷ more)) bs → 16 < depth bs) → step t n s l ≡ stop 20
+  pub refused-deep : ((more : List (List ℕ)) (bs : Blocks) → Derives (ls ++ (l ∷ more)) bs → 16 < depth bs) → step t n s l ≡ stop 20
   refused-deep h = decided-step t n s l short ∙ full (directiveOf l) o c n (s .count + countOf c) (s .groups) (by (leb 16 (length (s .groups))) refl)
     where
       by : (b : Bool) → leb 16 (length (s .groups)) ≡ b → 16 ≤ length (s .groups)
@@ -102,11 +89,9 @@ module _ (t : List ℕ) (ls : List (List ℕ)) (s : State) (p : Passes t 1 start
       by false e =
           let k = leb-false 16 (length (s .groups)) e in
           let a = flags-length (s .groups) in
-          let m = completed 16 (false ∷ flags (s .groups)) (omega arith) in
-          let entered = moved-back 16 l (m .0) (enter {fs = flags (s .groups)} o) refl (omega arith) (omega arith) (m .1) in
-          let r = passes-back t ls 1 start s (l ∷ m .0) p (omega arith) .1 entered in
-          let d : Derives (ls ++ (l ∷ m .0)) (r .blocks) = record { lines = r .lines ∙ rw (r .next, append-nil); words = r .fits } in
-          absurd (omega (arith, h (m .0) (r .blocks) d, r .deep))
-
-pub too-deep : TooDeep
-too-deep t ls s p n l short o = (deeper t ls s p n l short o, refused-deep t ls s p n l short o)
+          let m = closers (false ∷ flags (s .groups)) in
+          let closed = completed 16 (false ∷ flags (s .groups)) (omega arith) in
+          let entered = moved-back 16 l m (enter {fs = flags (s .groups)} o) refl (omega arith) (omega arith) closed in
+          let r = passes-back t ls 1 start s (l ∷ m) p (omega arith) .1 entered in
+          let d : Derives (ls ++ (l ∷ m)) (r .blocks) = record { lines = r .lines ∙ rw (r .next, append-nil); words = r .fits } in
+          absurd (omega (arith, h m (r .blocks) d, r .deep))

@@ -1,4 +1,4 @@
--- Lines are the lines of one list of blocks at most: the word of a line says which block or branch it begins, and blocks end where a word
+-- Lines derive one list of blocks at most: the word of a line says which block or branch it begins, and blocks end where a word
 -- comes that begins none. Assumes nothing.
 use Prim.Native.Nat.{ℕ, _≤_}
 use native.Mathlib.Omega.{arith}

@@ -1,4 +1,4 @@
--- Refusal 21 by the words alone: the innermost open group is the one whose `!if` stands before lines that never left it. Assumes nothing.
+-- Refusal 21 by the words alone: the innermost open `!if` is followed by lines that never left its group. Assumes nothing.
 use Prim.Native.Nat.{ℕ, _+_, _≤_, _<_}
 use native.Mathlib.Omega.{arith}
 use mathlib.Core.Path.{_≡_, refl, sym, ap, _∙_}
@@ -12,8 +12,8 @@ use Rattle.nesting.specs.Groups.{Group, group as entry}
 use Rattle.nesting.specs.Decide.{State}
 use Rattle.select.specs.Select.{accepted, refused, atEnd, run, start}
 use Rattle.blocks.specs.Blocks.{Blocks, empty, group, Branches, endif, elseif, else, linesOf, linesIn, opens, Derives, depth}
-use Rattle.blocks.specs.Beginnings.{Whole, Passes, Innermost}
-use Rattle.blocks.specs.Misplaced.{Unfinished}
+use Rattle.blocks.specs.Beginnings.{Whole, Innermost}
+use Rattle.blocks.proofs.Passing.{Passes, Unfinished}
 use Rattle.blocks.proofs.Continuation.{onto, onto-accepted, onto-refused}
 use Rattle.blocks.proofs.RunMeaning.{run-go}
 use Rattle.blocks.proofs.MayFollow.{Front, Others, After, None, Rest, nothing-left, before-endif}

@@ -1,5 +1,4 @@
--- Lines that blocks begin with, and the group that is open at their end (document 01, "Refusal numbers", 19 to 21). Misplaced.antt says what
--- is refused by these.
+-- Lines that blocks begin with, and the group that is open at their end (document 01, "Refusal numbers", 19 and 21).
 use Prim.Native.Nat.{ℕ, _+_}
 use mathlib.Core.Path.{_≡_}
 use mathlib.Core.Bool.{true}
@@ -7,8 +6,6 @@ use mathlib.Core.List.{List, [], _∷_, _++_}
 use lib.ListN.{length}
 use Rattle.line.specs.Directives.{directiveOf}
 use Rattle.line.specs.declared.Directive.the-variants.{Endif}
-use Rattle.nesting.specs.Decide.{State, go}
-use Rattle.select.specs.Step.{step}
 use Rattle.blocks.specs.Blocks.{Blocks, empty, group, Branches, opens, Derives}
 
 -- these lines derive some blocks
@@ -18,11 +15,6 @@ Whole ls = (bs : Blocks) × Derives ls bs
 -- these lines with some lines after them derive blocks
 abbrev pub Begins : List (List ℕ) → Type 0
 Begins ls = (more : List (List ℕ)) × Whole (ls ++ more)
-
--- a run refuses none of these lines, the first of which is line n, and comes from one state to another
-abbrev pub Passes : (t : List ℕ) → (n : ℕ) → State → List (List ℕ) → State → Type 0
-Passes t n s [] s′ = s ≡ s′
-Passes t n s (l ∷ ls) s′ = (m : ℕ) × (q : State) × (step t n s l ≡ go m q) × Passes t (n + 1) q ls s′
 
 -- line m is the innermost open `!if`: from it on, the lines and any `!endif` after them derive one group
 pub record Innermost (ls : List (List ℕ)) (m : ℕ) : Type 0 where

@@ -1,6 +1,6 @@
 -- What is promised of a selection by the blocks of its file: lines derive one list of blocks at most, an accepted selection is what its
--- blocks mean, and blocks within the limits are selected as they mean. proofs/Decided.antt has the proofs. Misplaced.antt has the refusals
--- of lines that derive no blocks.
+-- blocks mean, and lines that derive blocks within the limits are selected as these mean. Refused.antt has every refusal.
+-- proofs/Decided.antt and MarksTellReading.antt have the proofs.
 use Prim.Native.Nat.{ℕ, _+_, _≤_, _<_}
 use mathlib.Core.Path.{_≡_}
 use mathlib.Core.Logic.{_↔_}

@@ -43,10 +43,6 @@ whole =
     (bytes "!endif")))
     (line (bytes "D") empty)
 
-pub whole-derives : Derives (lines file) whole
-unfolding onto endsLine lines named wordStart textStart directiveOf span compared classOf
-whole-derives = record { lines = refl; words = (refl, (refl, tt), (refl, (refl, tt), (refl, (refl, tt), refl)), (refl, tt)) }
-
 -- a dead group with every directive, whose conditions would be faults
 abbrev pub dead : Blocks
 dead =
@@ -59,6 +55,14 @@ dead =
     (else (bytes "!else") (line (bytes "C") empty)
     (bytes "!endif"))
     empty
+
+-- the second `!else`, in line 4, belongs to a group that is not read
+abbrev pub twoElses : List ℕ
+twoElses = bytes "!ifdef A\n!ifdef B\n!else\n!else\n!endif\n!endif\n"
+
+pub whole-derives : Derives (lines file) whole
+unfolding onto endsLine lines named wordStart textStart directiveOf span compared classOf
+whole-derives = record { lines = refl; words = (refl, (refl, tt), (refl, (refl, tt), (refl, (refl, tt), refl)), (refl, tt)) }
 
 pub meanings-hold : _≡_ {A = List Meaning}
     (meaning (setting "FOO" 61 2) true whole ∷ meaning (setting "FOO" 61 3) true whole ∷ meaning [] true dead ∷ [])
@@ -74,10 +78,6 @@ pub readings-hold : _≡_ {A = List (List Bool)}
     ∷ [])
 unfolding readsOf named wordStart textStart directiveOf says expressionSays nameSays namedSays nameAt idle ofAnswer inSoundTable ofTokens barOutside recordsIn littleEndian held underAt under reading readToken readByte readFrom tooDeep checkDepth classOf span compared macroName pcdName digitOf valueIn literal isDecimal isHexadecimal hexadecimalOf numberOf stringOf stringAt spelled isWide wordOf macroOf begins leading lexemeBy lexeme isPrimary isUnary levelOf runGoal parse unaryKind binaryKind choiceKind andDigits orDigits changed applied comparison numbers primaryValue missingPcd unaryValue bothValues binaryValue choiceValue
 readings-hold = refl
-
--- the second `!else`, in line 4, is stray though its group is not read
-abbrev pub twoElses : List ℕ
-twoElses = bytes "!ifdef A\n!ifdef B\n!else\n!else\n!endif\n!endif\n"
 
 pub two-elses-refused : (run [] 1 start (lines twoElses) ≡ refused DIRECTIVE-STRAY 4) × (selection twoElses [] 6 ≡ refused DIRECTIVE-STRAY 4)
 unfolding selection run step heard opening decided elseifRuling elseRuling endRuling reads onto endsLine lines named wordStart textStart directiveOf says nameSays namedSays nameAt idle recordsIn wellFormed ascending sound littleEndian held underAt under classOf span compared macroName pcdName

@@ -3,5 +3,5 @@ pub mod Meaning
 pub mod Reading
 pub mod Decides
 pub mod Beginnings
-pub mod Misplaced
+pub mod Refused
 pub mod Examples

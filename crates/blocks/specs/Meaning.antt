@@ -51,7 +51,8 @@ closing true (Fails n) = single 5 n
 closing true (Wrong r) = fault r 0
 
 -- The reading rule: `!if`, `!ifdef`, `!ifndef`, `!else` and `!endif` are read where the branch around their whole group is taken;
--- `!elseif` where, besides, no earlier branch of its group was taken. Around the blocks of a whole file nothing is left out.
+-- `!elseif` where, besides, no earlier branch of its group was taken. The blocks of a whole file have no branch around them, which counts as
+-- taken.
 unfoldable mutual
   pub meaning : (t : List ℕ) → (around : Bool) → Blocks → Meaning
   meaning t around empty = means [] 0
