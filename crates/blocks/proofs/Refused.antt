@@ -105,7 +105,8 @@ module _ (t : List ℕ) (ls : List (List ℕ)) (s : State) (p : Passes t 1 start
       done : decided (directiveOf l) c m n (s .groups) ≡ stop r
       done = sym (decided-step t m s l short) ∙ e
 
-      moving : (gs : List Bool) → Moves (directiveOf l) (flags (s .groups)) gs → (b : Bool) → opens (directiveOf l) ≡ b → (a : Bool) → leb 16 (length (s .groups)) ≡ a
+      moving : (gs : List Bool) → Moves (directiveOf l) (flags (s .groups)) gs → (b : Bool) → opens (directiveOf l) ≡ b
+          → (a : Bool) → leb 16 (length (s .groups)) ≡ a
           → Refuses t ls l r
       moving gs v true o true h =
           let q = same-stop 20 r (sym (full (directiveOf l) o c m n (s .groups) (leb-true 16 (length (s .groups)) h)) ∙ done) in

@@ -145,7 +145,15 @@ no-rest most b fs r =
     )
 
 innermost : (b : Bool) (m : ℕ) (Outer : List (List ℕ) → Type 0) (ls : List (List ℕ)) → OpenIn b m Outer ls → Innermost ls m
-innermost b m Outer ls o = record { before = o .before; opening = o .opening; since = o .since; lines = o .lines; number = o .number; opens-it = o .opens-it; closes = close }
+innermost b m Outer ls o = record {
+  before = o .before;
+  opening = o .opening;
+  since = o .since;
+  lines = o .lines;
+  number = o .number;
+  opens-it = o .opens-it;
+  closes = close;
+}
   where
     close : (e : List ℕ) → directiveOf e ≡ Endif
         → (body : Blocks) × (os : Branches) × Derives (o .opening ∷ (o .since ++ (e ∷ []))) (group (o .opening) body os empty)
