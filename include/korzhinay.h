@@ -127,8 +127,8 @@ enum korzhinay_memory {
     KORZHINAY_IN_TABLE = 1
 };
 
-/* The bytes of one PCD data field. With 0 the field stands at the front of buffer, *length is how many bytes it has, and the bytes
- * past it stay. With a refusal *length is 0 and every byte of buffer stays.
+/* The bytes of one PCD data field. With 0 the field stands at the front of buffer, *written is how many bytes it has, and the bytes
+ * past it stay. With a refusal *written is 0 and every byte of buffer stays.
  * The field is a number in 1, 1, 2, 4 or 8 bytes, little endian, for BOOLEAN and UINT8 to UINT64; for VOID* it is a string and one
  * zero byte, or a wide string as two bytes for each of its own, that one and a zero, and two zero bytes.
  * No field has more than 2,044 bytes: a buffer of so many is enough.
@@ -138,7 +138,7 @@ enum korzhinay_memory {
  *   25  the number is too large for the datum; for BOOLEAN it is above 1
  *   26  buffer is shorter than the field */
 uint8_t korzhinay_field(uint8_t *buffer, size_t buffer_len, const uint8_t *expression, size_t expression_len,
-                        const uint8_t *table, size_t table_len, uint8_t datum, uint64_t *length);
+                        const uint8_t *table, size_t table_len, uint8_t datum, uint64_t *written);
 
 /* The datum codes of a field. */
 enum korzhinay_datum {

@@ -35,7 +35,7 @@ extern "C" {
         table: *const c_void,
         table_len: usize,
         datum: u8,
-        length: *mut u64,
+        written: *mut u64,
     ) -> u8;
     pub fn korzhinay_select(
         marks: *mut c_void,

@@ -1,5 +1,5 @@
 -- What is promised of the answer to an expression e over a table t, in terms of derivations: no promise here speaks of the parser.
--- proofs/Answered.antt and proofs/Placed.antt have the proofs.
+-- proofs/Answered.antt, Placed.antt and LineZero.antt have the proofs.
 use Prim.Native.Nat.{ℕ, _+_, _≤_, _<_}
 use mathlib.Core.Path.{_≡_}
 use mathlib.Core.Logic.{_↔_}
@@ -19,7 +19,7 @@ use Rattle.value.specs.Values.{Value, number, string, wide, fault, kindOf}
 use Rattle.value.specs.Places.{bytesAt}
 use Rattle.value.specs.Settled.{Settles}
 use Rattle.expression.specs.Meaning.{codeOf, meaning}
-use Rattle.evaluation.specs.Evaluation.{value, refused, refusedWith, judged, evaluation}
+use Rattle.evaluation.specs.Evaluation.{value, refused, refusedWith, lineOf, judged, evaluation}
 
 -- a malformed table is 1, whatever the expression; then come the refusals that reading the expression meets, 2 to 6
 pub record Unread (e t : List ℕ) : Type 0 where
@@ -53,3 +53,7 @@ Stands e t (fault r) = Unit
 -- every string that is given stands so
 abbrev pub Placed : (e t : List ℕ) → Type 0
 Placed e t = (v : Value) (n : ℕ) → evaluation e t ≡ value v n → Stands e t v
+
+-- an expression is no line of a file: a refusal of it by itself has line 0 (document 01, "Refusal numbers"), and so has a value
+abbrev pub WithoutLine : (e t : List ℕ) → Type 0
+WithoutLine e t = lineOf (evaluation e t) ≡ 0

@@ -1,11 +1,13 @@
 -- The data field that an expression's value makes (document 01, "Field bytes"). The expression's own refusals come before those of the
 -- datum and the buffer. The answer is a length; the count of operators is no part of it.
 use Prim.Native.Nat.{ℕ}
+use mathlib.Core.Path.{_≡_}
 use mathlib.Core.List.{List}
 use Rattle.value.specs.Values.{Value, number, string, wide, fault}
 use Rattle.evaluation.specs.Evaluation.{Evaluation, value, refused, evaluation}
 use Rattle.datum.specs.Encoding.{Encoding, unfit, terminated, widened, numberField, stringField, Field, fitted}
-use Rattle.datum.specs.declared.Written.the-variants.{Refused}
+use Rattle.datum.specs.declared.Written.{Written}
+use Rattle.datum.specs.declared.Written.the-variants.{Length, Refused}
 
 -- a value's bytes for a datum, by its kind (an answer never has a fault for its value)
 abbrev pub encoding : (datum : ℕ) → Value → Encoding
@@ -22,3 +24,12 @@ written (value v n) d b = fitted (encoding d v) b
 -- the field of an expression e over a table t
 unfoldable pub fieldOf : (e t : List ℕ) → (datum : ℕ) → (buffer : List ℕ) → Field
 fieldOf e t d b = written (evaluation e t) d b
+
+-- the line of an answer, 0 where there is no refusal
+abbrev pub lineOf : Written → ℕ
+lineOf (Length n) = 0
+lineOf (Refused r) = r .line .0
+
+-- a refusal of a field by itself has line 0 (document 01, "Refusal numbers"); proofs/LineZero.antt has the proof
+abbrev pub WithoutLine : Type 0
+WithoutLine = (e t : List ℕ) (datum : ℕ) (buffer : List ℕ) → lineOf (fieldOf e t datum buffer .answer) ≡ 0

@@ -17,7 +17,7 @@ writtenLength (Length n) = n
 writtenLength (Refused r) = 0
 
 -- what the call gives and leaves: the number, the length, and the buffer
-pub record Fills (f : Field) (r length : ℕ) (buffer : List ℕ) : Type 0 where
+pub record Fills (f : Field) (r written : ℕ) (buffer : List ℕ) : Type 0 where
   pub refused-with : r ≡ writtenNumber (f .answer)
-  pub length-is : length ≡ writtenLength (f .answer)
+  pub length-is : written ≡ writtenLength (f .answer)
   pub buffer-is : buffer ≡ f .buffer

@@ -11,17 +11,17 @@ pub extern "C" fn korzhinay_field<'a>(
     expr: &'a [u8],
     table: &'a [u8],
     datum: u8,
-    length: &mut u64,
+    written: &mut u64,
 ) -> u8
-    ensures { λ r. ⌜ Fills (fieldOf (now (expr .entry)) (now (table .entry)) datum (now (buffer .entry))) r (now (length .exit)) (now (buffer .exit)) ⌝ }
+    ensures { λ r. ⌜ Fills (fieldOf (now (expr .entry)) (now (table .entry)) datum (now (buffer .entry))) r (now (written .exit)) (now (buffer .exit)) ⌝ }
 {
     match field::field(buffer, expr, table, datum) {
         Written::Length(n) => {
-            *length = n as u64;
+            *written = n as u64;
             0
         }
         Written::Refused(r) => {
-            *length = 0;
+            *written = 0;
             r.number
         }
     }

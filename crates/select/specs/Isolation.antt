@@ -20,11 +20,12 @@ use Rattle.select.specs.Select.{MOST-FILE, accepted, selection, Selects}
 use Rattle.select.specs.declared.Answer.{Answer}
 use Rattle.select.specs.declared.Answer.the-variants.{Accepted}
 
--- a directive that is read has mark 3, 4 or 5, and any other line a mark below
+-- A directive that is read has mark 3, 4 or 5, and any other line a mark below. Which directives are read is said by the structure of the
+-- file in blocks/specs/Reading.antt; that the marks show just these is `MarksTellReading` in blocks/specs/Decides.antt.
 abbrev pub Read : (mark : ℕ) → Type 0
 Read m = NOT-TAKEN ≤ m
 
--- which is promised of every line that has a mark
+-- the same of a step, by the standing of the innermost group
 abbrev pub MarksTell : Type 0
 MarksTell = (t : List ℕ) (n : ℕ) (s : State) (l : List ℕ) (m : ℕ) (s′ : State) → step t n s l ≡ go m s′ → (reads (directiveOf l) (standingOf (s .groups)) ≡ true) ↔ Read m
 

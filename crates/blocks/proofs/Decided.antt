@@ -1,0 +1,60 @@
+-- The promises of specs/Decides.antt, `MarksTellReading` apart. Assumes nothing.
+use Prim.Native.Nat.{ℕ, _+_, _≤_}
+use native.Mathlib.Omega.{arith}
+use native.Mathlib.Nat.{zero-add, add-comm}
+use mathlib.Core.Path.{_≡_, sym, _∙_}
+use mathlib.Core.Bool.{true}
+use mathlib.Core.List.{List, [], append-nil}
+use Rattle.line.specs.Lines.{lines}
+use Rattle.nesting.specs.Decide.{state}
+use Rattle.select.specs.Select.{accepted, refused, run, start}
+use Rattle.select.proofs.Alike.{never}
+use Rattle.select.proofs.Before.{runs}
+use Rattle.select.proofs.Isolated.{accepted-runs}
+use Rattle.blocks.specs.Blocks.{linesOf, Derives, depth}
+use Rattle.blocks.specs.Meaning.{Meaning, means, fault, meaning}
+use Rattle.blocks.specs.Decides.{WithinLimit, resultOf, Unambiguous, Sound, CompleteRun, Complete}
+use Rattle.blocks.proofs.Continuation.{onto-accepted, follow}
+use Rattle.blocks.proofs.RunMeaning.{blocks-go}
+use Rattle.blocks.proofs.AcceptedBlocks.{accepted-follows}
+use Rattle.blocks.proofs.Unambiguous.{same-blocks}
+
+pub unambiguous : Unambiguous
+unambiguous ls a b p q = same-blocks a (p .words) b (q .words) [] [] tt tt (simp append-nil (sym (p .lines) ∙ q .lines)) .0
+
+-- a meaning with no line after it
+follow-end : (t : List ℕ) (a : Meaning) → follow 1 0 a (λ n k. run t n (state [] k) []) ≡ resultOf a
+unfolding run
+follow-end t (means ms c) = onto-accepted ms [] (0 + c) ∙ rw (append-nil, zero-add)
+follow-end t (fault r i) = rw (add-comm 1 i)
+
+pub run-complete : CompleteRun
+run-complete t ls bs d h s =
+    let w : WithinLimit (linesOf bs) = rw (d .lines) at s in
+    let e = blocks-go t bs (d .words) w [] (omega arith) [] 1 0 in
+    rw (d .lines) (rw append-nil at e ∙ follow-end t (meaning t true bs))
+
+-- the meaning of lines of which the result is known
+pub accepted-means : (a : Meaning) (ms : List ℕ) (c : ℕ) → resultOf a ≡ accepted ms c → a ≡ means ms c
+accepted-means (means ns d) ms c e = cc
+accepted-means (fault k i) ms c e = never _ k (i + 1) ms c e
+
+pub refused-means : (a : Meaning) (r i : ℕ) → resultOf a ≡ refused r (i + 1) → a ≡ fault r i
+refused-means (means ns d) r i e = never _ r (i + 1) ns d (sym e)
+refused-means (fault k j) r i e =
+    let p : k ≡ r = cc in
+    let q : j + 1 ≡ i + 1 = cc in
+    let z : j ≡ i = omega arith in
+    rw (p, z)
+
+pub complete : Complete
+complete f t room bs sound small few enough d h s = runs f t room sound small few enough ∙ run-complete t (lines f) bs d h s
+
+pub sound : Sound
+sound f t room ms c e =
+    let r = accepted-runs f t room ms c e .0 in
+    let w = accepted-follows t (lines f) 1 start ms c (omega arith) r in
+    let bs = w .0 .blocks in
+    let d : Derives (lines f) bs = record { lines = w .0 .lines ∙ rw (w .0 .next, append-nil); words = w .0 .fits } in
+    let h : depth bs ≤ 16 = omega (arith, w .0 .deep) in
+    (bs, d, h, w .1, accepted-means (meaning t true bs) ms c (sym (run-complete t (lines f) bs d h (w .1)) ∙ r))

@@ -1,0 +1,74 @@
+-- The promise `FaultNumbers`: what blocks mean has no fault from 17 to 21, since no text has. Assumes nothing.
+use Prim.Native.Nat.{ℕ}
+use mathlib.Core.Bool.{Bool, true, false, not, _&&_}
+use mathlib.Core.List.{List}
+use Rattle.text.specs.Bytes.{pick}
+use Rattle.line.specs.Directives.{directiveOf, textOf}
+use Rattle.line.specs.declared.Directive.the-variants.{Elseif, Else, Endif}
+use Rattle.condition.specs.Conditions.{says}
+use Rattle.condition.specs.declared.Condition.{Condition}
+use Rattle.condition.specs.declared.Condition.the-variants.{Holds, Fails, Wrong}
+use Rattle.blocks.specs.Blocks.{Blocks, empty, line, group, Branches, endif, elseif, else}
+use Rattle.blocks.specs.Meaning.{Meaning, means, fault, single, _then_, branch, otherwise, closing, meaning, branches}
+use Rattle.blocks.specs.Refused.{FaultNumbers}
+use Rattle.blocks.proofs.TextFaults.{Other-than, InCondition, in-says}
+
+abbrev Sorted : Meaning → Type 0
+Sorted (means ms c) = Unit
+Sorted (fault r i) = Other-than r
+
+then-sorted : (a b : Meaning) → Sorted a → Sorted b → Sorted (a then b)
+then-sorted (means ms c) (means ns d) h k = tt
+then-sorted (means ms c) (fault r i) h k = k
+then-sorted (fault r i) b h k = h
+
+module _ (body others : Bool → Meaning) (in-body : (b : Bool) → Sorted (body b)) (in-others : (b : Bool) → Sorted (others b)) where
+  line-sorted : (m c : ℕ) (live taken : Bool) → Sorted (single m c then body live then others taken)
+  line-sorted m c live taken =
+      then-sorted (single m c) (body live then others taken) tt (then-sorted (body live) (others taken) (in-body live) (in-others taken))
+
+  branch-sorted : (r : Bool) (c : Condition) (taken : Bool) → InCondition c → Sorted (branch r c taken body others)
+  branch-sorted false c taken h = line-sorted 2 0 false taken
+  branch-sorted true (Holds n) taken h = line-sorted 4 n true true
+  branch-sorted true (Fails n) taken h = line-sorted 3 n false taken
+  branch-sorted true (Wrong k) taken h = h
+
+otherwise-sorted : (taken : Bool) (c : Condition) → InCondition c → InCondition (otherwise taken c)
+otherwise-sorted true (Holds n) h = tt
+otherwise-sorted false (Holds n) h = tt
+otherwise-sorted true (Fails n) h = tt
+otherwise-sorted false (Fails n) h = tt
+otherwise-sorted taken (Wrong r) h = h
+
+closing-sorted : (around : Bool) (c : Condition) → InCondition c → Sorted (closing around c)
+closing-sorted false c h = tt
+closing-sorted true (Holds n) h = tt
+closing-sorted true (Fails n) h = tt
+closing-sorted true (Wrong r) h = h
+
+module _ (t : List ℕ) where
+  mutual
+    unfolding meaning
+
+    blocks-sorted : (bs : Blocks) (around : Bool) → Sorted (meaning t around bs)
+    blocks-sorted empty around = tt
+    blocks-sorted (line l bs) around = then-sorted (single (pick around 1 0) 0) (meaning t around bs) tt (blocks-sorted bs around)
+    blocks-sorted (group l body os bs) around =
+        let c : Condition = says t (directiveOf l) (textOf l) in
+        let m : Meaning = branch around c false (λ b. meaning t b body) (λ b. branches t around b os) in
+        let h = branch-sorted (λ b. meaning t b body) (λ b. branches t around b os) (λ b. blocks-sorted body b) (λ b. branches-sorted os around b)
+        around c false (in-says t (directiveOf l) (textOf l)) in
+        then-sorted m (meaning t around bs) h (blocks-sorted bs around)
+
+    branches-sorted : (os : Branches) (around taken : Bool) → Sorted (branches t around taken os)
+    branches-sorted (endif l) around taken = closing-sorted around (says t Endif (textOf l)) (in-says t Endif (textOf l))
+    branches-sorted (elseif l body os) around taken =
+        branch-sorted (λ b. meaning t b body) (λ b. branches t around b os) (λ b. blocks-sorted body b) (λ b. branches-sorted os around b)
+        (around && not taken) (says t Elseif (textOf l)) taken (in-says t Elseif (textOf l))
+    branches-sorted (else l body e) around taken =
+        branch-sorted (λ b. meaning t b body) (λ _. closing around (says t Endif (textOf e))) (λ b. blocks-sorted body b)
+        (λ _. closing-sorted around (says t Endif (textOf e)) (in-says t Endif (textOf e)))
+        around (otherwise taken (says t Else (textOf l))) taken (otherwise-sorted taken (says t Else (textOf l)) (in-says t Else (textOf l)))
+
+pub fault-numbers : FaultNumbers
+fault-numbers t bs r i e = let h : Sorted (fault r i) = rw e at (blocks-sorted t bs true) in h

@@ -1,0 +1,104 @@
+-- Lines that a run passes are passable by blocks, and the other way round. Assumes nothing.
+use Prim.Native.Nat.{ℕ, _+_, _≤_}
+use native.Mathlib.Omega.{arith}
+use mathlib.Core.Path.{_≡_, refl, sym, ap, _∙_}
+use mathlib.Core.Bool.{Bool, true, false}
+use mathlib.Core.List.{List, [], _∷_, _++_, append-nil}
+use lib.ListN.{length}
+use Rattle.text.specs.Bytes.{bytes, classOf}
+use Rattle.text.specs.Runs.{span}
+use Rattle.text.specs.Order.{compared}
+use Rattle.line.specs.Directives.{named, wordStart, textStart, directiveOf, textOf}
+use Rattle.line.specs.declared.Directive.the-variants.{Endif}
+use Rattle.condition.specs.Conditions.{idle, says}
+use Rattle.condition.specs.declared.Condition.the-variants.{Holds}
+use Rattle.ruling.specs.Standings.{around}
+use Rattle.nesting.specs.Groups.{Group, group as entry}
+use Rattle.nesting.specs.Decide.{State, state}
+use Rattle.select.specs.Select.{Result, accepted, prepend, run, start}
+use Rattle.blocks.specs.Blocks.{Derives, depth}
+use Rattle.blocks.specs.Meaning.{closing, meaning}
+use Rattle.blocks.specs.Decides.{WithinLimit, resultOf}
+use Rattle.blocks.specs.Refused.{Passable}
+use Rattle.blocks.proofs.Passing.{Passes}
+use Rattle.blocks.proofs.Continuation.{onto, onto-accepted, follow}
+use Rattle.blocks.proofs.RunMeaning.{end-goes}
+use Rattle.blocks.proofs.MayFollow.{Rest}
+use Rattle.blocks.proofs.GroupMoves.{flags, flags-length, Proper}
+use Rattle.blocks.proofs.AcceptedBlocks.{passed}
+use Rattle.blocks.proofs.Decided.{run-complete, accepted-means}
+use Rattle.blocks.proofs.PassedLines.{an-endif, closers, completed, passes-back, passes-proper}
+use Rattle.blocks.proofs.Stops.{accepted-passes, passes-on}
+
+pub limit-append : (a b : List (List ℕ)) → WithinLimit a → WithinLimit b → WithinLimit (a ++ b)
+limit-append [] b h k = k
+limit-append (l ∷ a) b h k = (h .0, limit-append a b (h .1) k)
+
+endif-short : length (bytes "!endif") ≤ 1024
+endif-short = let e : length (bytes "!endif") ≡ 6 = refl in omega arith
+
+pub closers-short : (fs : List Bool) → WithinLimit (closers fs)
+closers-short [] = tt
+closers-short (b ∷ fs) = (endif-short, closers-short fs)
+
+pub passes-short : (t : List ℕ) (ls : List (List ℕ)) (n : ℕ) (s s′ : State) → Passes t n s ls s′ → WithinLimit ls
+passes-short t [] n s s′ e = tt
+passes-short t (l ∷ ls) n s s′ p = (passed t n s l (p .0) (p .1) (p .2) .0, passes-short t ls (n + 1) (p .1) s′ (p .3))
+
+-- blocks out of what may follow where no group is open
+pub rest-derives : (ls : List (List ℕ)) (r : Rest 16 [] ls) → Derives ls (r .blocks) × (depth (r .blocks) ≤ 16)
+rest-derives ls r = (record { lines = r .lines ∙ rw (r .next, append-nil); words = r .fits }, omega (arith, r .deep))
+
+-- every open group can be closed with no fault
+endif-says : (t : List ℕ) → says t Endif (textOf (bytes "!endif")) ≡ Holds 0
+unfolding says idle named wordStart textStart directiveOf span compared classOf
+endif-says t = refl
+
+abbrev Accepting : Result → Type 0
+Accepting r = (ms : List ℕ) × (c : ℕ) × (r ≡ accepted ms c)
+
+prepend-accepting : (m : ℕ) (r : Result) → Accepting r → Accepting (prepend m r)
+prepend-accepting m r w = (m ∷ w .0, w .1, ap (prepend m) (w .2))
+
+closing-accepting : (b : Bool) (n k : ℕ) (f : ℕ → ℕ → Result) → ((n k : ℕ) → Accepting (f n k)) → Accepting (follow n k (closing b (Holds 0)) f)
+closing-accepting false n k f h = prepend-accepting 2 (f (n + 1) (k + 0)) (h (n + 1) (k + 0))
+closing-accepting true n k f h = prepend-accepting 5 (f (n + 1) (k + 0)) (h (n + 1) (k + 0))
+
+closers-accepting : (t : List ℕ) (gs : List Group) → Proper gs → (n k : ℕ) → Accepting (run t n (state gs k) (closers (flags gs)))
+unfolding run
+closers-accepting t [] p n k = ([], k, refl)
+closers-accepting t (entry z b m ∷ gs) p n k =
+    let e = end-goes t z b m gs (bytes "!endif") (closers (flags gs)) (p .0) an-endif endif-short n k in
+    let f : ℕ → ℕ → Result = λ n k. run t n (state gs k) (closers (flags gs)) in
+    let q : run t n (state (entry z b m ∷ gs) k) (bytes "!endif" ∷ closers (flags gs)) ≡ follow n k (closing (around z) (Holds 0)) f =
+    rw (endif-says t) at e in
+    let w = closing-accepting (around z) n k f (λ n′ k′. closers-accepting t gs (p .1) n′ k′) in
+    (w .0, w .1, q ∙ w .2)
+
+pub passes-passable : (t : List ℕ) (ls : List (List ℕ)) (s : State) → Passes t 1 start ls s → Passable t ls
+passes-passable t ls s p =
+    let more = closers (flags (s .groups)) in
+    let b = passes-back t ls 1 start s more p (omega arith) in
+    let few = b .0 in
+    let r : Rest 16 [] (ls ++ more) = b .1 (completed 16 (flags (s .groups)) (omega (arith, flags-length (s .groups)))) in
+    let d = rest-derives (ls ++ more) r in
+    let short = limit-append ls more (passes-short t ls 1 start s p) (closers-short (flags (s .groups))) in
+    let o = passes-on t ls 1 start s more p in
+    let a = closers-accepting t (s .groups) (passes-proper t ls 1 start s p tt) (1 + length ls) (s .count) in
+    let e : resultOf (meaning t true (r .blocks)) ≡ accepted (o .0 ++ a .0) (a .1) =
+    sym (run-complete t (ls ++ more) (r .blocks) (d .0) (d .1) short) ∙ o .1 ∙ ap (onto (o .0)) (a .2) ∙ onto-accepted (o .0) (a .0) (a .1) in
+    record {
+      more = more;
+      blocks = r .blocks;
+      derives = d .0;
+      shallow = d .1;
+      short = short;
+      marks = o .0 ++ a .0;
+      count = a .1;
+      meant = accepted-means (meaning t true (r .blocks)) (o .0 ++ a .0) (a .1) e;
+    }
+
+pub passable-passes : (t : List ℕ) (ls : List (List ℕ)) → Passable t ls → (s : State) × Passes t 1 start ls s
+passable-passes t ls p =
+    let e = run-complete t (ls ++ p .more) (p .blocks) (p .derives) (p .shallow) (p .short) ∙ ap resultOf (p .meant) in
+    accepted-passes t ls (p .more) 1 start (p .marks) (p .count) e

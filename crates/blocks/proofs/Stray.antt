@@ -1,0 +1,111 @@
+-- Refusal 19 by blocks: a line that is refused so is one with which the lines begin no blocks. Assumes nothing.
+use Prim.Native.Nat.{ℕ, _+_, _≤_}
+use native.Mathlib.Omega.{arith}
+use mathlib.Core.Path.{_≡_, refl, sym, _∙_}
+use mathlib.Core.Bool.{Bool, true, false}
+use mathlib.Core.List.{List, [], _∷_, _++_, append-assoc, append-nil}
+use lib.ListN.{length}
+use Rattle.line.specs.Directives.{directiveOf}
+use Rattle.line.specs.declared.Directive.{Directive}
+use Rattle.line.specs.declared.Directive.the-variants.{Plain, If, Ifdef, Ifndef, Elseif, Else, Endif, Unknown}
+use Rattle.condition.specs.Conditions.{countOf}
+use Rattle.condition.specs.declared.Condition.{Condition}
+use Rattle.ruling.specs.Rules.{elseifRuling, elseRuling, endRuling}
+use Rattle.nesting.specs.Groups.{Group, group}
+use Rattle.nesting.specs.Decide.{State, stop, decided}
+use Rattle.select.specs.Step.{heard, step}
+use Rattle.select.specs.Select.{start}
+use Rattle.select.proofs.Steps.{decided-step}
+use Rattle.blocks.specs.Blocks.{Blocks, opens, Derives, depth}
+use Rattle.blocks.specs.Beginnings.{Whole, Begins}
+use Rattle.blocks.proofs.Passing.{Passes, Stray}
+use Rattle.blocks.proofs.MayFollow.{Rest}
+use Rattle.blocks.proofs.GroupMoves.{flags, Moves, stay, enter, turn, final, leave, Can, Moving, decided-moves}
+use Rattle.blocks.proofs.TextFaults.{never-own}
+use Rattle.blocks.proofs.NextLine.{ahead}
+use Rattle.blocks.proofs.PassedLines.{Walk, walk-back, walk-ahead, walk-append, closers, completed, passes-walk, passes-proper}
+
+-- blocks as what may follow where no group is open, and back
+pub whole-rest : (ls : List (List ℕ)) (bs : Blocks) → Derives ls bs → Rest (depth bs) [] ls
+whole-rest ls bs d = record { blocks = bs; more = []; fits = d .words; deep = omega arith; lines = d .lines ∙ sym (append-nil _); next = refl }
+
+pub rest-whole : (most : ℕ) (ls : List (List ℕ)) → Rest most [] ls → Whole ls
+rest-whole most ls r = (r .blocks, record { lines = r .lines ∙ rw (r .next, append-nil); words = r .fits })
+
+-- lines that lead from no group to some begin blocks
+pub walk-begins : (ls : List (List ℕ)) (gs : List Bool) → Walk [] ls gs → Begins ls
+walk-begins ls gs w =
+    let most : ℕ = length ls + length gs in
+    (closers gs, rest-whole most (ls ++ closers gs) (walk-back most ls [] gs (closers gs) (omega arith) w (completed most gs (omega arith))))
+
+-- a line that moves the groups is one that they and its word let pass
+moves-can : {d : Directive} {fs gs : List Bool} → Moves d fs gs → Can d fs
+moves-can stay = tt
+moves-can (enter {d} {fs} o) = by d o
+  where
+    by : (d : Directive) → opens d ≡ true → Can d fs
+    by Plain o = tt
+    by If o = tt
+    by Ifdef o = tt
+    by Ifndef o = tt
+    by Elseif o = let z : _≡_ {A = ℕ} 0 1 = cc in absurd (omega arith)
+    by Else o = let z : _≡_ {A = ℕ} 0 1 = cc in absurd (omega arith)
+    by Endif o = let z : _≡_ {A = ℕ} 0 1 = cc in absurd (omega arith)
+    by Unknown o = tt
+moves-can turn = tt
+moves-can final = tt
+moves-can leave = tt
+
+-- any other line is refused 19, whatever its text says
+module _ (c : Condition) (n k : ℕ) (R : Type 0) where
+  pub move-or-stray : (d : Directive) → (d ≡ Unknown → ⊥) → (gs : List Group) → ((hs : List Bool) → Moves d (flags gs) hs → R)
+      → (decided d c n k gs ≡ stop 19 → R) → R
+  unfolding decided elseifRuling elseRuling endRuling
+  move-or-stray Plain u gs f g = f (flags gs) stay
+  move-or-stray If u gs f g = f (false ∷ flags gs) (enter refl)
+  move-or-stray Ifdef u gs f g = f (false ∷ flags gs) (enter refl)
+  move-or-stray Ifndef u gs f g = f (false ∷ flags gs) (enter refl)
+  move-or-stray Elseif u [] f g = g refl
+  move-or-stray Elseif u (group s true m ∷ gs) f g = g refl
+  move-or-stray Elseif u (group s false m ∷ gs) f g = f (false ∷ flags gs) turn
+  move-or-stray Else u [] f g = g refl
+  move-or-stray Else u (group s true m ∷ gs) f g = g refl
+  move-or-stray Else u (group s false m ∷ gs) f g = f (true ∷ flags gs) final
+  move-or-stray Endif u [] f g = g refl
+  move-or-stray Endif u (group s b m ∷ gs) f g = f (flags gs) leave
+  move-or-stray Unknown u gs f g = absurd (u refl)
+
+module _ (t : List ℕ) (ls : List (List ℕ)) (s : State) (p : Passes t 1 start ls s) where
+  walked : Walk [] ls (flags (s .groups))
+  walked = passes-walk t ls 1 start s p
+
+  -- a line with which the lines begin blocks moves the groups
+  begins-moves : (l : List ℕ) → Begins (ls ++ (l ∷ [])) → (gs : List Bool) × Moves (directiveOf l) (flags (s .groups)) gs
+  begins-moves l b =
+      let d : Derives (ls ++ (l ∷ b .0)) (b .1 .0) = rw append-assoc at (b .1 .1) in
+      let a =
+      ahead (depth (b .1 .0)) l (b .0) (flags (s .groups))
+      (walk-ahead (depth (b .1 .0)) ls [] (flags (s .groups)) (l ∷ b .0) walked (whole-rest _ (b .1 .0) d)) in
+      (a .0, a .1)
+
+  pub moves-begins : (l : List ℕ) (gs : List Bool) → Moves (directiveOf l) (flags (s .groups)) gs → Begins (ls ++ (l ∷ []))
+  moves-begins l gs m = walk-begins (ls ++ (l ∷ [])) gs (walk-append ls (l ∷ []) [] (flags (s .groups)) gs walked (gs, m, refl))
+
+  module _ (n : ℕ) (l : List ℕ) (short : length l ≤ 1024) where
+    pub not-both : step t n s l ≡ stop 19 → Begins (ls ++ (l ∷ [])) → ⊥
+    not-both e b =
+        let m = begins-moves l b in
+        let c = heard t (s .groups) l in
+        let f = decided-moves (directiveOf l) c n (s .count + countOf c) (s .groups) in
+        let g : Moving c (directiveOf l) n (s .groups) (stop 19) = rw (sym (decided-step t n s l short) ∙ e) at f in
+        g (never-own t (s .groups) l 19 (omega arith) (omega arith)) (passes-proper t ls 1 start s p tt) (moves-can (m .1)) refl
+
+    pub refuses : (directiveOf l ≡ Unknown → ⊥) → (Begins (ls ++ (l ∷ [])) → ⊥) → step t n s l ≡ stop 19
+    refuses known h =
+        decided-step t n s l short
+        ∙ move-or-stray (heard t (s .groups) l) n (s .count + countOf (heard t (s .groups) l)) _ (directiveOf l) known (s .groups)
+        (λ gs m. absurd (h (moves-begins l gs m))) (λ e. e)
+
+pub stray : Stray
+stray t ls s p =
+    (walk-begins ls (flags (s .groups)) (walked t ls s p), λ n l short known. (not-both t ls s p n l short, refuses t ls s p n l short known))

@@ -1,0 +1,84 @@
+-- The whole case of document 01 ("Lines and directives") by its blocks: antt computes that its lines derive them, and what they mean. Then a
+-- group in a branch that is not taken, of which no directive is read. Last a file with two `!else` in a group that is not read, which
+-- derives no blocks (proofs/TwoElses.antt) and is refused.
+use Prim.Native.Nat.{ℕ}
+use mathlib.Core.Path.{_≡_, refl}
+use mathlib.Core.Bool.{Bool, true, false}
+use mathlib.Core.List.{List, [], _∷_}
+use Rattle.units.specs.Refusals.{DIVISOR-ZERO, DIRECTIVE-STRAY}
+use Rattle.text.specs.Bytes.{bytes, classOf}
+use Rattle.text.specs.Runs.{span}
+use Rattle.text.specs.Order.{compared}
+use Rattle.text.specs.Names.{macroName, pcdName}
+use Rattle.settings.specs.Table.{recordsIn, sound, ascending, wellFormed}
+use Rattle.settings.specs.Setting.{littleEndian, held, underAt, under}
+use Rattle.lexeme.specs.Lexeme.{digitOf, valueIn, literal, isDecimal, isHexadecimal, hexadecimalOf, numberOf, stringOf, stringAt, spelled, isWide, wordOf, macroOf, begins, leading, lexemeBy, lexeme}
+use Rattle.token.specs.Tokens.{readToken, readByte, readFrom, tooDeep, checkDepth, reading}
+use Rattle.arithmetic.specs.Digits.{andDigits, orDigits}
+use Rattle.arithmetic.specs.Operators.{changed, applied, comparison, numbers}
+use Rattle.grammar.specs.Grammar.{isPrimary, isUnary, levelOf}
+use Rattle.grammar.specs.Parse.{run as runGoal, parse}
+use Rattle.grammar.specs.Bars.{barOutside}
+use Rattle.value.specs.Kinds.{unaryKind, binaryKind, choiceKind}
+use Rattle.value.specs.Values.{primaryValue, missingPcd, unaryValue, bothValues, binaryValue, choiceValue}
+use Rattle.evaluation.specs.Evaluation.{inSoundTable, ofTokens}
+use Rattle.line.specs.Lines.{onto, endsLine, lines}
+use Rattle.line.specs.Directives.{named, wordStart, textStart, directiveOf}
+use Rattle.condition.specs.Conditions.{idle, ofAnswer, expressionSays, nameAt, namedSays, nameSays, says}
+use Rattle.ruling.specs.Standings.{reads}
+use Rattle.ruling.specs.Rules.{elseifRuling, elseRuling, endRuling}
+use Rattle.nesting.specs.Decide.{opening, decided}
+use Rattle.select.specs.Step.{heard, step}
+use Rattle.select.specs.Select.{refused, run, start, selection}
+use Rattle.select.specs.Examples.{setting, file}
+use Rattle.blocks.specs.Blocks.{Blocks, empty, line, group, elseif, else, Derives}
+use Rattle.blocks.specs.Meaning.{Meaning, means, fault, meaning}
+use Rattle.blocks.specs.Reading.{readsOf}
+
+abbrev pub whole : Blocks
+whole =
+    group (bytes "!if $(FOO) == 2") (line (bytes "A") empty)
+    (elseif (bytes "!elseif 1 / 0") (line (bytes "B") empty)
+    (else (bytes "!else") (line (bytes "C") empty)
+    (bytes "!endif")))
+    (line (bytes "D") empty)
+
+-- a dead group with every directive, whose conditions would be faults
+abbrev pub dead : Blocks
+dead =
+    group (bytes "!if 0")
+    (group (bytes "!ifdef ?") (line (bytes "A") empty)
+    (elseif (bytes "!elif 1 / 0") (line (bytes "B") empty)
+    (else (bytes "!else x") empty
+    (bytes "!endif x")))
+    empty)
+    (else (bytes "!else") (line (bytes "C") empty)
+    (bytes "!endif"))
+    empty
+
+-- the second `!else`, in line 4, belongs to a group that is not read
+abbrev pub twoElses : List ℕ
+twoElses = bytes "!ifdef A\n!ifdef B\n!else\n!else\n!endif\n!endif\n"
+
+pub whole-derives : Derives (lines file) whole
+unfolding onto endsLine lines named wordStart textStart directiveOf span compared classOf
+whole-derives = record { lines = refl; words = (refl, (refl, tt), (refl, (refl, tt), (refl, (refl, tt), refl)), (refl, tt)) }
+
+pub meanings-hold : _≡_ {A = List Meaning}
+    (meaning (setting "FOO" 61 2) true whole ∷ meaning (setting "FOO" 61 3) true whole ∷ meaning [] true dead ∷ [])
+    (means (4 ∷ 1 ∷ 2 ∷ 0 ∷ 3 ∷ 0 ∷ 5 ∷ 1 ∷ []) 1 ∷ fault DIVISOR-ZERO 2 ∷ means (3 ∷ 2 ∷ 0 ∷ 2 ∷ 0 ∷ 2 ∷ 2 ∷ 4 ∷ 1 ∷ 5 ∷ []) 0 ∷ [])
+unfolding meaning named wordStart textStart directiveOf says expressionSays nameSays namedSays nameAt idle ofAnswer inSoundTable ofTokens barOutside recordsIn littleEndian held underAt under reading readToken readByte readFrom tooDeep checkDepth classOf span compared macroName pcdName digitOf valueIn literal isDecimal isHexadecimal hexadecimalOf numberOf stringOf stringAt spelled isWide wordOf macroOf begins leading lexemeBy lexeme isPrimary isUnary levelOf runGoal parse unaryKind binaryKind choiceKind andDigits orDigits changed applied comparison numbers primaryValue missingPcd unaryValue bothValues binaryValue choiceValue
+meanings-hold = refl
+
+-- which of their lines are read
+pub readings-hold : _≡_ {A = List (List Bool)}
+    (readsOf (setting "FOO" 61 2) true whole ∷ readsOf [] true dead ∷ [])
+    ((true ∷ false ∷ false ∷ false ∷ true ∷ false ∷ true ∷ false ∷ [])
+    ∷ (true ∷ false ∷ false ∷ false ∷ false ∷ false ∷ false ∷ true ∷ false ∷ true ∷ [])
+    ∷ [])
+unfolding readsOf named wordStart textStart directiveOf says expressionSays nameSays namedSays nameAt idle ofAnswer inSoundTable ofTokens barOutside recordsIn littleEndian held underAt under reading readToken readByte readFrom tooDeep checkDepth classOf span compared macroName pcdName digitOf valueIn literal isDecimal isHexadecimal hexadecimalOf numberOf stringOf stringAt spelled isWide wordOf macroOf begins leading lexemeBy lexeme isPrimary isUnary levelOf runGoal parse unaryKind binaryKind choiceKind andDigits orDigits changed applied comparison numbers primaryValue missingPcd unaryValue bothValues binaryValue choiceValue
+readings-hold = refl
+
+pub two-elses-refused : (run [] 1 start (lines twoElses) ≡ refused DIRECTIVE-STRAY 4) × (selection twoElses [] 6 ≡ refused DIRECTIVE-STRAY 4)
+unfolding selection run step heard opening decided elseifRuling elseRuling endRuling reads onto endsLine lines named wordStart textStart directiveOf says nameSays namedSays nameAt idle recordsIn wellFormed ascending sound littleEndian held underAt under classOf span compared macroName pcdName
+two-elses-refused = (refl, refl)

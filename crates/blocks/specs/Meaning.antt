@@ -1,0 +1,69 @@
+-- What blocks mean over a table (document 01, "Lines and directives"): a mark for each line and the number of operators that were applied,
+-- or the first fault. By recursion on blocks, with whether the branch around them is taken.
+use Prim.Native.Nat.{ℕ, _+_}
+use mathlib.Core.Bool.{Bool, true, false, not, _&&_}
+use mathlib.Core.List.{List, [], _∷_, _++_}
+use lib.ListN.{length}
+use Rattle.text.specs.Bytes.{pick}
+use Rattle.line.specs.Directives.{directiveOf, textOf}
+use Rattle.line.specs.declared.Directive.the-variants.{Elseif, Else, Endif}
+use Rattle.condition.specs.Conditions.{says}
+use Rattle.condition.specs.declared.Condition.{Condition}
+use Rattle.condition.specs.declared.Condition.the-variants.{Holds, Fails, Wrong}
+use Rattle.blocks.specs.Blocks.{Blocks, empty, line, group, Branches, endif, elseif, else}
+
+-- The marks of lines and their count of operators; or the number of the first fault and how many of the lines come before it. Marks: 0
+-- plain, dropped; 1 plain, kept; 2 directive not read; 3 read, branch not taken; 4 read, branch taken; 5 read `!endif`.
+pub data Meaning : Type 0 where
+  means : (marks : List ℕ) → (count : ℕ) → Meaning
+  fault : (number before : ℕ) → Meaning
+
+-- one line, with its mark and its count
+abbrev pub single : (mark count : ℕ) → Meaning
+single m c = means (m ∷ []) c
+
+-- lines and the lines after them: marks in order, the sum of counts ("the sum of operator counts"), the first fault
+infixr 60 _then_
+abbrev pub _then_ : Meaning → Meaning → Meaning
+means ms c then means ns d = means (ms ++ ns) (c + d)
+means ms c then fault r i = fault r (length ms + i)
+fault r i then m = fault r i
+
+-- A branch: its line, its body, and the other branches after it. What the line's text says counts only where the line is read. The body is
+-- given whether this branch is taken, the other branches whether one of the group was taken so far.
+abbrev pub branch : (read : Bool) → Condition → (taken : Bool) → (body others : Bool → Meaning) → Meaning
+branch false c taken body others = single 2 0 then body false then others taken
+branch true (Holds n) taken body others = single 4 n then body true then others true
+branch true (Fails n) taken body others = single 3 n then body false then others taken
+branch true (Wrong r) taken body others = fault r 0
+
+-- a read `!else` takes its branch exactly if no earlier one was taken, unless its text is malformed
+abbrev pub otherwise : (taken : Bool) → Condition → Condition
+otherwise taken (Holds n) = pick taken (Fails n) (Holds n)
+otherwise taken (Fails n) = pick taken (Fails n) (Holds n)
+otherwise taken (Wrong r) = Wrong r
+
+-- an `!endif`
+abbrev pub closing : (read : Bool) → Condition → Meaning
+closing false c = single 2 0
+closing true (Holds n) = single 5 n
+closing true (Fails n) = single 5 n
+closing true (Wrong r) = fault r 0
+
+-- The reading rule: `!if`, `!ifdef`, `!ifndef`, `!else` and `!endif` are read where the branch around their whole group is taken;
+-- `!elseif` where, besides, no earlier branch of its group was taken. The blocks of a whole file have no branch around them, which counts as
+-- taken.
+unfoldable mutual
+  pub meaning : (t : List ℕ) → (around : Bool) → Blocks → Meaning
+  meaning t around empty = means [] 0
+  meaning t around (line l bs) = single (pick around 1 0) 0 then meaning t around bs
+  meaning t around (group l body os bs) =
+      branch around (says t (directiveOf l) (textOf l)) false (λ live. meaning t live body) (λ taken. branches t around taken os)
+      then meaning t around bs
+
+  pub branches : (t : List ℕ) → (around taken : Bool) → Branches → Meaning
+  branches t around taken (endif l) = closing around (says t Endif (textOf l))
+  branches t around taken (elseif l body os) =
+      branch (around && not taken) (says t Elseif (textOf l)) taken (λ live. meaning t live body) (λ taken′. branches t around taken′ os)
+  branches t around taken (else l body e) =
+      branch around (otherwise taken (says t Else (textOf l))) taken (λ live. meaning t live body) (λ _. closing around (says t Endif (textOf e)))

@@ -1,0 +1,35 @@
+-- Which directives are read, line by line, by blocks (document 01, "Lines and directives": a directive is read when its outcome depends on
+-- it). Decides.antt says that the marks of a selection show just these lines.
+use Prim.Native.Nat.{ℕ}
+use mathlib.Core.Bool.{Bool, true, false, not, _&&_, _||_}
+use mathlib.Core.List.{List, [], _∷_, _++_}
+use Rattle.line.specs.Directives.{directiveOf, textOf}
+use Rattle.line.specs.declared.Directive.the-variants.{Elseif}
+use Rattle.condition.specs.Conditions.{says}
+use Rattle.condition.specs.declared.Condition.{Condition}
+use Rattle.condition.specs.declared.Condition.the-variants.{Holds, Fails, Wrong}
+use Rattle.blocks.specs.Blocks.{Blocks, empty, line, group, Branches, endif, elseif, else}
+
+-- whether a condition lets its branch be taken
+abbrev pub holds : Condition → Bool
+holds (Holds n) = true
+holds (Fails n) = false
+holds (Wrong r) = false
+
+-- For each line whether it is a directive that is read, where the branch around the blocks is taken or not, and, inside a group, an earlier
+-- branch of it was taken or not. A plain line is never read.
+unfoldable mutual
+  pub readsOf : (t : List ℕ) → (around : Bool) → Blocks → List Bool
+  readsOf t around empty = []
+  readsOf t around (line l bs) = false ∷ readsOf t around bs
+  readsOf t around (group l body os bs) =
+      let taken = around && holds (says t (directiveOf l) (textOf l)) in
+      around ∷ (readsOf t taken body ++ (readsIn t around taken os ++ readsOf t around bs))
+
+  pub readsIn : (t : List ℕ) → (around earlier : Bool) → Branches → List Bool
+  readsIn t around earlier (endif l) = around ∷ []
+  readsIn t around earlier (elseif l body os) =
+      let read = around && not earlier in
+      let taken = read && holds (says t Elseif (textOf l)) in
+      read ∷ (readsOf t taken body ++ readsIn t around (earlier || taken) os)
+  readsIn t around earlier (else l body e) = around ∷ (readsOf t (around && not earlier) body ++ (around ∷ []))

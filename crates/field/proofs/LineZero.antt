@@ -1,0 +1,27 @@
+-- The promise `WithoutLine`: no refusal of a field by itself has a line of its own. Assumes nothing.
+use Prim.Native.Nat.{ℕ}
+use mathlib.Core.Path.{_≡_, refl, sym, _∙_}
+use mathlib.Core.List.{List}
+use lib.ListN.{length}
+use lib.Dec.{leb}
+use Rattle.text.proofs.Laws.{pick-case}
+use Rattle.evaluation.specs.Evaluation.{Evaluation, value, refused, lineOf as lineOfEvaluation, evaluation}
+use Rattle.evaluation.proofs.LineZero.{without-line as expression-without-line}
+use Rattle.datum.specs.Encoding.{Encoding, unfit, bytes, Field, fitted}
+use Rattle.field.specs.Fields.{encoding, written, fieldOf, lineOf, WithoutLine}
+
+abbrev LineZero : Field → Type 0
+LineZero f = lineOf (f .answer) ≡ 0
+
+fitted-so : (x : Encoding) (b : List ℕ) → LineZero (fitted x b)
+unfolding fitted
+fitted-so (unfit n) b = refl
+fitted-so (bytes s) b = pick-case LineZero (leb (length s) (length b)) (λ _. refl) (λ _. refl)
+
+written-so : (x : Evaluation) → lineOfEvaluation x ≡ 0 → (d : ℕ) (b : List ℕ) → LineZero (written x d b)
+written-so (refused r) h d b = h
+written-so (value v n) h d b = fitted-so (encoding d v) b
+
+pub without-line : WithoutLine
+unfolding fieldOf
+without-line e t d b = written-so (evaluation e t) (expression-without-line e t) d b
