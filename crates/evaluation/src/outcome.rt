@@ -118,7 +118,7 @@ fn in_room<'a>(
 }
 
 // An expression has no more tokens than bytes: for one of at most this many, less memory is cleared.
-const SHORT: usize = 48;
+const SHORT: usize = 32;
 
 // The answer over a table that is known to be well formed.
 pub fn in_sound_table<'a>(expr: &'a [u8], table: &'a [u8]) -> Answer
@@ -127,9 +127,9 @@ pub fn in_sound_table<'a>(expr: &'a [u8], table: &'a [u8]) -> Answer
 {
     let mut codes = [0u8; 200];
     if expr.len() <= SHORT {
-        let mut starts = [0u16; 48];
-        let mut lens = [0u16; 48];
-        let mut values = [0u64; 48];
+        let mut starts = [0u16; 32];
+        let mut lens = [0u16; 32];
+        let mut values = [0u64; 32];
         return in_room(&mut codes, &mut starts, &mut lens, &mut values, expr, table);
     }
     let mut starts = [0u16; 200];

@@ -37,7 +37,7 @@ extern "C" {
         table: *const u8,
         table_len: usize,
         datum: u8,
-        length: *mut u64,
+        written: *mut u64,
     ) -> u8;
     fn korzhinay_select(
         marks: *mut u8,

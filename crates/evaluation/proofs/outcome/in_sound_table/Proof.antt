@@ -22,7 +22,7 @@ slice-aggregate-in-room-3 c =
 in-room-requires : tie.Need-in-room-requires
 in-room-requires c κs =
     let start = c .before .before .before .before .before .before .before in
-    (start .pre, room-of (start .args .expr .now) (replicate 200 0) (replicate 48 0) (replicate 48 0) (replicate 48 0) 48 (omega (arith, tokens-of-bytes (start .args .expr .now), c .before .before .before .before .if1 .taken)) (omega arith) (omega arith) (omega arith) (omega arith))
+    (start .pre, room-of (start .args .expr .now) (replicate 200 0) (replicate 32 0) (replicate 32 0) (replicate 32 0) 32 (omega (arith, tokens-of-bytes (start .args .expr .now), c .before .before .before .before .if1 .taken)) (omega arith) (omega arith) (omega arith) (omega arith))
 
 returns : tie.Need-returns
 returns c =
