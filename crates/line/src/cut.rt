@@ -3,8 +3,10 @@ use text::runs;
 use text::runs::Set;
 use units::Offset;
 ghost use mathlib.Core.Path.{_≡_};
-ghost use Prim.Native.Nat.{_<_};
-ghost use lib.ListN.{length};
+ghost use Prim.Native.Nat.{_+_, _≤_, _<_};
+ghost use lib.ListN.{length, drop};
+ghost use Rattle.text.specs.Runs.{span};
+ghost use Rattle.text.specs.declared.runs.Set.the-variants.{Line};
 ghost use Rattle.line.specs.Lines.{lines};
 ghost use Rattle.line.specs.Cutting.{lineEnd, opened, Cuts};
 
@@ -32,12 +34,48 @@ fn line_end(file: &[u8], from: usize, lf: usize) -> usize
     last
 }
 
+// Where the first LF from a byte on is, or the file's end. Eight bytes per turn, so that the loop's own cost is shared by eight.
+fn lf_from(file: &[u8], from: usize) -> usize
+    requires { ⌜ from ≤ length (now file) ⌝ }
+    ensures { λ r. ⌜ r ≡ from + span Line (drop from (now (file .entry))) ⌝ }
+{
+    let mut i = from;
+    while 8 <= file.len() - i {
+        if file[i] == b'\n' {
+            return i;
+        }
+        if file[i + 1] == b'\n' {
+            return i + 1;
+        }
+        if file[i + 2] == b'\n' {
+            return i + 2;
+        }
+        if file[i + 3] == b'\n' {
+            return i + 3;
+        }
+        if file[i + 4] == b'\n' {
+            return i + 4;
+        }
+        if file[i + 5] == b'\n' {
+            return i + 5;
+        }
+        if file[i + 6] == b'\n' {
+            return i + 6;
+        }
+        if file[i + 7] == b'\n' {
+            return i + 7;
+        }
+        i += 8;
+    }
+    runs::run_end(file, i, Set::Line)
+}
+
 // The line that starts at a byte.
 pub fn next(file: &[u8], from: usize) -> Cut
     requires { ⌜ from < length (now file) ⌝ }
     ensures { λ r. ⌜ Cuts (now (file .entry)) from r ⌝ }
 {
-    let lf = runs::run_end(file, from, Set::Line);
+    let lf = lf_from(file, from);
     let end = line_end(file, from, lf);
     // past the end where no LF was found, so that no line starts there and no caller needs a case for it
     let after = lf + 1;
@@ -58,17 +96,38 @@ fn is_open(file: &[u8]) -> bool
     file[n - 1] != b'\n'
 }
 
-// How many lines a file has. By its LFs, with one way out of the loop, so that the compiler takes many bytes at a time.
+// How many bytes are counted in one block: a multiple of 32, and few enough that a u8 can count their LFs.
+const BLOCK: usize = 224;
+
+// Where the block that starts at a byte ends.
+fn block_end(len: usize, from: usize) -> usize
+    requires { ⌜ from < len ⌝ }
+    ensures { λ r. ⌜ (from < r) × (r ≤ len) × (r ≤ from + 224) ⌝ }
+{
+    if len - from <= BLOCK {
+        len
+    } else {
+        from + BLOCK
+    }
+}
+
+// How many lines a file has, by its LFs. The inner loop has no early exit and a u8 as its counter, so that it vectorises with a byte per
+// lane; a wider counter takes several times the instructions.
 pub fn count(file: &[u8]) -> usize
     ensures { λ r. ⌜ r ≡ length (lines (now (file .entry))) ⌝ }
 {
-    let mut n = 0;
-    let mut i = 0;
+    let mut n: usize = 0;
+    let mut i: usize = 0;
     while i < file.len() {
-        if file[i] == b'\n' {
-            n += 1;
+        let end = block_end(file.len(), i);
+        let mut lfs: u8 = 0;
+        while i < end {
+            if file[i] == b'\n' {
+                lfs += 1;
+            }
+            i += 1;
         }
-        i += 1;
+        n += lfs as usize;
     }
     if is_open(file) { n + 1 } else { n }
 }

@@ -3,7 +3,7 @@
 use Prim.Native.Nat.{ℕ, _+_, _≤_, _<_}
 use native.Mathlib.Omega.{arith}
 use native.Mathlib.Nat.{add-zero}
-use mathlib.Core.Path.{_≡_, refl, sym, ap, _∙_}
+use mathlib.Core.Path.{_≡_, sym, _∙_}
 use mathlib.Core.Bool.{true, false, false≢true}
 use mathlib.Core.List.{List}
 use lib.ListN.{length}
@@ -13,12 +13,15 @@ use Rattle.units.specs.Refusals.{LINE-LONG}
 use Rattle.text.proofs.Laws.{pick-case}
 use Rattle.settings.specs.Table.{wellFormed}
 use Rattle.line.specs.Directives.{directiveOf, textOf}
+use Rattle.line.specs.declared.Directive.the-variants.{Plain}
 use Rattle.condition.specs.Conditions.{says, countOf}
 use Rattle.condition.specs.declared.Condition.{Condition}
 use Rattle.condition.specs.declared.Condition.the-variants.{Fails}
 use Rattle.condition.proofs.Counts.{count-small}
-use Rattle.nesting.specs.Groups.{Group, standingOf}
-use Rattle.ruling.specs.Standings.{reads}
+use Rattle.nesting.specs.Groups.{standingOf}
+use Rattle.text.specs.Bytes.{pick}
+use Rattle.ruling.specs.Standings.{reads, live}
+use Rattle.ruling.specs.Rules.{KEPT, DROPPED}
 use Rattle.nesting.specs.Decide.{State, Outcome, go, stop, decided}
 use Rattle.nesting.specs.Stack.{Meets}
 use Rattle.nesting.specs.declared.Selection.{Selection}
@@ -38,6 +41,11 @@ module _ (t : List ℕ) (n : ℕ) (s : State) (l : List ℕ) where
   pub unread-step : length l ≤ 1024 → reads (directiveOf l) (standingOf (s .groups)) ≡ false → step t n s l ≡ decided (directiveOf l) (Fails 0) n (s .count) (s .groups)
   unfolding heard
   unread-step h r = decided-step h ∙ rw (r, add-zero (s .count))
+
+  -- a plain line leaves the state
+  pub bare-step : length l ≤ 1024 → directiveOf l ≡ Plain → step t n s l ≡ go (pick (live (standingOf (s .groups))) KEPT DROPPED) s
+  unfolding decided reads
+  bare-step h e = unread-step h (rw e) ∙ rw e
 
   pub read-step : length l ≤ 1024 → reads (directiveOf l) (standingOf (s .groups)) ≡ true
       → step t n s l ≡ decided (directiveOf l) (says t (directiveOf l) (textOf l)) n (s .count + countOf (says t (directiveOf l) (textOf l))) (s .groups)

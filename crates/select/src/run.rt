@@ -7,13 +7,13 @@ use units::LineNumber;
 use units::Refusal;
 ghost use mathlib.Core.Path.{_≡_};
 ghost use mathlib.Core.Bool.{true};
-ghost use Prim.Native.Nat.{ℕ, _≤_, _<_};
+ghost use Prim.Native.Nat.{_≤_, _<_};
 ghost use lib.ListN.{length};
 ghost use Rattle.settings.specs.Table.{wellFormed};
 ghost use Rattle.line.specs.Lines.{lines};
 ghost use Rattle.nesting.specs.Decide.{State};
 ghost use Rattle.nesting.specs.Stack.{Represents};
-ghost use Rattle.select.specs.Select.{start as startOf, atEnd, answerOf};
+ghost use Rattle.select.specs.Select.{start as startOf};
 ghost use Rattle.select.specs.Running.{ends, Runs};
 
 // A selection before the first line.
@@ -55,6 +55,8 @@ pub fn run<'a>(marks: &mut [u8], file: &'a [u8], table: &'a [u8]) -> Answer
     ensures { λ r. ⌜ Runs (now (file .entry)) (now (table .entry)) (now (marks .entry)) r (now (marks .exit)) ⌝ }
 {
     let mut x = fresh();
+    // what a plain line is marked with
+    let mut mark = ruling::KEPT;
     let mut at: usize = 0;
     let mut n: usize = 0;
     while at < file.len() {
@@ -62,16 +64,23 @@ pub fn run<'a>(marks: &mut [u8], file: &'a [u8], table: &'a [u8]) -> Answer
         let end = c.end;
         let after = c.after;
         let e = end.0;
-        let z = step::step(table, LineNumber(n + 1), x, &file[at..e]);
-        let ok = z.ok;
-        if !ok {
-            return refused(z.number, LineNumber(n + 1));
+        if step::is_bare(&file[at..e]) {
+            marks[n] = mark;
+            n += 1;
+            at = after.0;
+        } else {
+            let z = step::step(table, LineNumber(n + 1), x, &file[at..e]);
+            let ok = z.ok;
+            if !ok {
+                return refused(z.number, LineNumber(n + 1));
+            }
+            marks[n] = z.mark;
+            let next = z.next;
+            x = next;
+            mark = step::plain_mark(x);
+            n += 1;
+            at = after.0;
         }
-        marks[n] = z.mark;
-        let next = z.next;
-        x = next;
-        n += 1;
-        at = after.0;
     }
     finish(x, n)
 }

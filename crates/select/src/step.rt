@@ -5,10 +5,20 @@ use nesting::Selection;
 use nesting::Step;
 use nesting::decide;
 use nesting::stack;
+use text::bytes;
+use text::runs;
+use text::runs::Set;
 use units::LineNumber;
 ghost use mathlib.Core.Path.{_≡_};
 ghost use mathlib.Core.Bool.{true};
 ghost use Prim.Native.Nat.{_+_, _^_, _≤_, _<_};
+ghost use lib.ListN.{length};
+ghost use Rattle.text.specs.Bytes.{pick};
+ghost use Rattle.line.specs.Directives.{directiveOf};
+ghost use Rattle.line.specs.declared.Directive.the-variants.{Plain};
+ghost use Rattle.ruling.specs.Standings.{live};
+ghost use Rattle.ruling.specs.Rules.{KEPT, DROPPED};
+ghost use Rattle.nesting.specs.Groups.{standingOf};
 ghost use Rattle.settings.specs.Table.{wellFormed};
 ghost use Rattle.condition.specs.Conditions.{countOf};
 ghost use Rattle.nesting.specs.Decide.{State, state};
@@ -37,6 +47,32 @@ fn counted(x: Selection, n: usize) -> Selection
     let mut y = x;
     y.count = x.count + n;
     y
+}
+
+// Whether a line is short enough and its first byte but for blanks is no `!`: then it is plain.
+pub fn is_bare(line: &[u8]) -> bool
+    ensures { λ r. ⌜ (r ≡ true → (length (now (line .entry)) ≤ 1024) × (directiveOf (now (line .entry)) ≡ Plain)) ⌝ }
+{
+    if MOST_LINE < line.len() {
+        return false;
+    }
+    let first = runs::run_end(line, 0, Set::Blanks);
+    if bytes::byte_at(line, first) != b'!' {
+        return true;
+    }
+    false
+}
+
+// The mark of a plain line in a selection.
+pub fn plain_mark(x: Selection) -> u8
+    requires { ⌜ x .depth ≤ 16 ⌝ }
+    ensures { λ r. ⌜ ((s : State) → Represents x s → r ≡ pick (live (standingOf (s .groups))) KEPT DROPPED) ⌝ }
+{
+    if ruling::live(stack::standing(x)) {
+        ruling::KEPT
+    } else {
+        ruling::DROPPED
+    }
 }
 
 // Line n of a file, in a selection.

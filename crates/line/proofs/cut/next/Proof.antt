@@ -5,19 +5,19 @@ use borrow.Author.Needs.{needs}
 use Rattle.line.proofs.cut.next.Statement.{statement}
 use Rattle.line.proofs.cut.next.Tie as tie
 
-run-end-requires : tie.Need-run-end-requires
-run-end-requires c κs = search needs
+lf-from-requires : tie.Need-lf-from-requires
+lf-from-requires c κs = omega arith
 
 line-end-requires : tie.Need-line-end-requires
 line-end-requires c κs = search needs
 
 add-after : tie.Need-add-after
 add-after c = let a = c .before .before .before .args in
-    omega (arith, lf-fits (a .file .now) (a .from) (c .before .run-end .result) (omega arith) (c .before .run-end .ensures))
+    omega (arith, lf-fits (a .file .now) (a .from) (c .before .lf-from .result) (omega arith) (c .before .lf-from .ensures))
 
 returns : tie.Need-returns
 returns c = let a = c .before .before .before .args in
-    cuts (a .file .now) (a .from) (c .before .run-end .result) (omega arith) (c .before .run-end .ensures) (c .line-end .result) (c .line-end .ensures)
+    cuts (a .file .now) (a .from) (c .before .lf-from .result) (omega arith) (c .before .lf-from .ensures) (c .line-end .result) (c .line-end .ensures)
 
 pub next-spec : {M : Type 1} → statement M
-next-spec = tie.close (tie.spec run-end-requires line-end-requires add-after returns)
+next-spec = tie.close (tie.spec lf-from-requires line-end-requires add-after returns)
