@@ -43,9 +43,9 @@ module _ (t : List ℕ) (n : ℕ) (s : State) (l : List ℕ) where
   unread-step h r = decided-step h ∙ rw (r, add-zero (s .count))
 
   -- a plain line leaves the state
-  pub bare-step : length l ≤ 1024 → directiveOf l ≡ Plain → step t n s l ≡ go (pick (live (standingOf (s .groups))) KEPT DROPPED) s
+  pub plain-step : length l ≤ 1024 → directiveOf l ≡ Plain → step t n s l ≡ go (pick (live (standingOf (s .groups))) KEPT DROPPED) s
   unfolding decided reads
-  bare-step h e = unread-step h (rw e) ∙ rw e
+  plain-step h e = unread-step h (rw e) ∙ rw e
 
   pub read-step : length l ≤ 1024 → reads (directiveOf l) (standingOf (s .groups)) ≡ true
       → step t n s l ≡ decided (directiveOf l) (says t (directiveOf l) (textOf l)) n (s .count + countOf (says t (directiveOf l) (textOf l))) (s .groups)

@@ -55,7 +55,7 @@ pub fn run<'a>(marks: &mut [u8], file: &'a [u8], table: &'a [u8]) -> Answer
     ensures { λ r. ⌜ Runs (now (file .entry)) (now (table .entry)) (now (marks .entry)) r (now (marks .exit)) ⌝ }
 {
     let mut x = fresh();
-    // what a plain line is marked with
+    // the mark that plain lines have now
     let mut mark = ruling::KEPT;
     let mut at: usize = 0;
     let mut n: usize = 0;
@@ -64,7 +64,7 @@ pub fn run<'a>(marks: &mut [u8], file: &'a [u8], table: &'a [u8]) -> Answer
         let end = c.end;
         let after = c.after;
         let e = end.0;
-        if step::is_bare(&file[at..e]) {
+        if step::is_wordless(&file[at..e]) {
             marks[n] = mark;
             n += 1;
             at = after.0;

@@ -13,17 +13,14 @@ ghost use mathlib.Core.Path.{_≡_};
 ghost use mathlib.Core.Bool.{true};
 ghost use Prim.Native.Nat.{_+_, _^_, _≤_, _<_};
 ghost use lib.ListN.{length};
-ghost use Rattle.text.specs.Bytes.{pick};
 ghost use Rattle.line.specs.Directives.{directiveOf};
 ghost use Rattle.line.specs.declared.Directive.the-variants.{Plain};
-ghost use Rattle.ruling.specs.Standings.{live};
-ghost use Rattle.ruling.specs.Rules.{KEPT, DROPPED};
-ghost use Rattle.nesting.specs.Groups.{standingOf};
 ghost use Rattle.settings.specs.Table.{wellFormed};
 ghost use Rattle.condition.specs.Conditions.{countOf};
 ghost use Rattle.nesting.specs.Decide.{State, state};
 ghost use Rattle.nesting.specs.Stack.{Represents, Meets};
 ghost use Rattle.select.specs.Step.{step as stepOf};
+ghost use Rattle.select.specs.Running.{MarksPlain};
 
 // The most bytes of a line without its end.
 const MOST_LINE: usize = 1024;
@@ -49,8 +46,8 @@ fn counted(x: Selection, n: usize) -> Selection
     y
 }
 
-// Whether a line is short enough and its first byte but for blanks is no `!`: then it is plain.
-pub fn is_bare(line: &[u8]) -> bool
+// Whether a line has no word, its first byte that is no blank being no `!`, and is not too long: then it is plain.
+pub fn is_wordless(line: &[u8]) -> bool
     ensures { λ r. ⌜ (r ≡ true → (length (now (line .entry)) ≤ 1024) × (directiveOf (now (line .entry)) ≡ Plain)) ⌝ }
 {
     if MOST_LINE < line.len() {
@@ -66,7 +63,7 @@ pub fn is_bare(line: &[u8]) -> bool
 // The mark of a plain line in a selection.
 pub fn plain_mark(x: Selection) -> u8
     requires { ⌜ x .depth ≤ 16 ⌝ }
-    ensures { λ r. ⌜ ((s : State) → Represents x s → r ≡ pick (live (standingOf (s .groups))) KEPT DROPPED) ⌝ }
+    ensures { λ r. ⌜ MarksPlain x r ⌝ }
 {
     if ruling::live(stack::standing(x)) {
         ruling::KEPT

@@ -3,8 +3,8 @@ use mathlib.Core.Path.{_∙_}
 use mathlib.Core.Bool.{false≢true}
 use borrow.Author.Needs.{needs}
 use Rattle.line.proofs.Words.{plain-line}
-use Rattle.select.proofs.step.is_bare.Statement.{statement}
-use Rattle.select.proofs.step.is_bare.Tie as tie
+use Rattle.select.proofs.step.is_wordless.Statement.{statement}
+use Rattle.select.proofs.step.is_wordless.Tie as tie
 
 returns : tie.Need-returns
 returns c = λ e. absurd (false≢true e)
@@ -23,6 +23,6 @@ returns-2 c = λ e.
 returns-3 : tie.Need-returns-3
 returns-3 c = λ e. absurd (false≢true e)
 
-pub is-bare-spec : {M : Type 1} → statement M
-is-bare-spec =
+pub is-wordless-spec : {M : Type 1} → statement M
+is-wordless-spec =
     tie.close (tie.spec returns run-end-requires byte-at-requires returns-2 returns-3)
