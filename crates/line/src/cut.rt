@@ -1,6 +1,7 @@
 // A file cut into its lines.
 use text::runs;
 use text::runs::Set;
+use units::LineNumber;
 use units::Offset;
 ghost use mathlib.Core.Path.{_≡_};
 ghost use Prim.Native.Nat.{_+_, _≤_, _<_};
@@ -18,71 +19,69 @@ pub struct Cut {
 
 // Where the line ends that starts at `from` and has its LF, or else the file's end, at `lf`. A CR before an LF is dropped, but only one
 // of this line's own bytes; at the file's end a CR stands before no LF and stays.
-fn line_end(file: &[u8], from: usize, lf: usize) -> usize
-    ensures { λ r. ⌜ r ≡ lineEnd (now (file .entry)) from lf ⌝ }
+fn line_end(file: &[u8], from: Offset, lf: Offset) -> Offset
+    ensures { λ r. ⌜ r .0 ≡ lineEnd (now (file .entry)) (from .0) (lf .0) ⌝ }
 {
-    if file.len() <= lf {
+    let at = lf.0;
+    if file.len() <= at {
         return lf;
     }
-    if lf <= from {
+    if at <= from.0 {
         return lf;
     }
-    let last = lf - 1;
+    let last = at - 1;
     if file[last] != b'\r' {
         return lf;
     }
-    last
+    Offset(last)
 }
 
 // Where the first LF from a byte on is, or the file's end. Eight bytes per turn, so that the loop's own cost is shared by eight.
-fn lf_from(file: &[u8], from: usize) -> usize
-    requires { ⌜ from ≤ length (now file) ⌝ }
-    ensures { λ r. ⌜ r ≡ from + span Line (drop from (now (file .entry))) ⌝ }
+fn lf_from(file: &[u8], from: Offset) -> Offset
+    requires { ⌜ from .0 ≤ length (now file) ⌝ }
+    ensures { λ r. ⌜ r .0 ≡ from .0 + span Line (drop (from .0) (now (file .entry))) ⌝ }
 {
-    let mut i = from;
+    let mut i = from.0;
     while 8 <= file.len() - i {
         if file[i] == b'\n' {
-            return i;
+            return Offset(i);
         }
         if file[i + 1] == b'\n' {
-            return i + 1;
+            return Offset(i + 1);
         }
         if file[i + 2] == b'\n' {
-            return i + 2;
+            return Offset(i + 2);
         }
         if file[i + 3] == b'\n' {
-            return i + 3;
+            return Offset(i + 3);
         }
         if file[i + 4] == b'\n' {
-            return i + 4;
+            return Offset(i + 4);
         }
         if file[i + 5] == b'\n' {
-            return i + 5;
+            return Offset(i + 5);
         }
         if file[i + 6] == b'\n' {
-            return i + 6;
+            return Offset(i + 6);
         }
         if file[i + 7] == b'\n' {
-            return i + 7;
+            return Offset(i + 7);
         }
         i += 8;
     }
-    runs::run_end(file, i, Set::Line)
+    runs::run_end(file, Offset(i), Set::Line)
 }
 
 // The line that starts at a byte.
-pub fn next(file: &[u8], from: usize) -> Cut
-    requires { ⌜ from < length (now file) ⌝ }
-    ensures { λ r. ⌜ Cuts (now (file .entry)) from r ⌝ }
+pub fn next(file: &[u8], from: Offset) -> Cut
+    requires { ⌜ from .0 < length (now file) ⌝ }
+    ensures { λ r. ⌜ Cuts (now (file .entry)) (from .0) r ⌝ }
 {
     let lf = lf_from(file, from);
     let end = line_end(file, from, lf);
     // past the end where no LF was found, so that no line starts there and no caller needs a case for it
-    let after = lf + 1;
-    Cut {
-        end: Offset(end),
-        after: Offset(after),
-    }
+    let after = Offset(lf.0 + 1);
+    Cut { end, after }
 }
 
 // Whether bytes follow the last LF.
@@ -100,26 +99,28 @@ fn is_open(file: &[u8]) -> bool
 const BLOCK: usize = 224;
 
 // Where the block that starts at a byte ends.
-fn block_end(len: usize, from: usize) -> usize
-    requires { ⌜ from < len ⌝ }
-    ensures { λ r. ⌜ (from < r) × (r ≤ len) × (r ≤ from + 224) ⌝ }
+fn block_end(len: usize, from: Offset) -> Offset
+    requires { ⌜ from .0 < len ⌝ }
+    ensures { λ r. ⌜ (from .0 < r .0) × (r .0 ≤ len) × (r .0 ≤ from .0 + 224) ⌝ }
 {
-    if len - from <= BLOCK {
-        len
+    let start = from.0;
+    if len - start <= BLOCK {
+        Offset(len)
     } else {
-        from + BLOCK
+        Offset(start + BLOCK)
     }
 }
 
 // How many lines a file has, by its LFs. The inner loop has no early exit and a u8 as its counter, so that it vectorises with a byte per
 // lane; a wider counter takes several times the instructions.
-pub fn count(file: &[u8]) -> usize
-    ensures { λ r. ⌜ r ≡ length (lines (now (file .entry))) ⌝ }
+pub fn count(file: &[u8]) -> LineNumber
+    ensures { λ r. ⌜ r .0 ≡ length (lines (now (file .entry))) ⌝ }
 {
     let mut n: usize = 0;
     let mut i: usize = 0;
     while i < file.len() {
-        let end = block_end(file.len(), i);
+        let block = block_end(file.len(), Offset(i));
+        let end = block.0;
         let mut lfs: u8 = 0;
         while i < end {
             if file[i] == b'\n' {
@@ -129,5 +130,9 @@ pub fn count(file: &[u8]) -> usize
         }
         n += lfs as usize;
     }
-    if is_open(file) { n + 1 } else { n }
+    if is_open(file) {
+        LineNumber(n + 1)
+    } else {
+        LineNumber(n)
+    }
 }

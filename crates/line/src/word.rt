@@ -4,6 +4,7 @@ use text::bytes;
 use text::order;
 use text::runs;
 use text::runs::Set;
+use units::Offset;
 ghost use mathlib.Core.Path.{_≡_};
 ghost use Rattle.text.specs.Bytes.{pick};
 ghost use Rattle.text.specs.Order.{alike};
@@ -50,12 +51,13 @@ fn named(w: &[u8]) -> Directive
 pub fn directive(line: &[u8]) -> Directive
     ensures { λ r. ⌜ r ≡ directiveOf (now (line .entry)) ⌝ }
 {
-    let first = runs::run_end(line, 0, Set::Blanks);
+    let first = runs::run_end(line, Offset(0), Set::Blanks);
     if bytes::byte_at(line, first) != b'!' {
         return Directive::Plain;
     }
-    let start = first + 1;
-    let end = runs::run_end(line, start, Set::Letters);
+    let start = first.0 + 1;
+    let after = runs::run_end(line, Offset(start), Set::Letters);
+    let end = after.0;
     named(&line[start..end])
 }
 
@@ -63,11 +65,12 @@ pub fn directive(line: &[u8]) -> Directive
 pub fn text(line: &[u8]) -> &[u8]
     ensures { λ r. ⌜ HandsText (line .entry) r ⌝ }
 {
-    let first = runs::run_end(line, 0, Set::Blanks);
-    if line.len() <= first {
+    let first = runs::run_end(line, Offset(0), Set::Blanks);
+    if line.len() <= first.0 {
         return &line[0..0];
     }
-    let start = first + 1;
-    let after = runs::run_end(line, start, Set::Letters);
-    &line[after..]
+    let start = first.0 + 1;
+    let after = runs::run_end(line, Offset(start), Set::Letters);
+    let end = after.0;
+    &line[end..]
 }

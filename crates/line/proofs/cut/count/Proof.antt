@@ -72,8 +72,8 @@ loop-again c = omega arith
 is-open-requires : tie.Need-is-open-requires Inv-loop2 μ-loop2 Inv-loop μ-loop
 is-open-requires c κs = search needs
 
-add-result : tie.Need-add-result Inv-loop2 μ-loop2 Inv-loop μ-loop
-add-result c = omega arith
+add-t15 : tie.Need-add-t15 Inv-loop2 μ-loop2 Inv-loop μ-loop
+add-t15 c = omega arith
 
 returns : tie.Need-returns Inv-loop2 μ-loop2 Inv-loop μ-loop
 returns c =
@@ -110,6 +110,6 @@ count-spec =
     loop-less
     loop-again
     is-open-requires
-    add-result
+    add-t15
     returns
     returns-2)

@@ -9,17 +9,17 @@ use Rattle.line.proofs.cut.lf_from.Statement.{statement}
 use Rattle.line.proofs.cut.lf_from.Tie as tie
 
 abbrev Inv-loop : tie.InvT-loop
-Inv-loop file from i₀ i = (from ≤ i) × (i ≤ length file) × Passed file (from) i
+Inv-loop file from i = (from ≤ i) × (i ≤ length file) × Passed file from i
 
 abbrev μ-loop : tie.MeasureT-loop
-μ-loop file from i₀ i = length file - i
+μ-loop file from i = length file - i
 
 -- A turn of the loop, and the eight bytes that it looks at: those before byte k of them are passed.
 abbrev Turn : Type 0
 Turn = tie.In-loop Inv-loop μ-loop
 
 abbrev Reaches : Turn → ℕ → Type 0
-Reaches t k = let start = t .before .before .before in Passed (start .args .file .now) (start .args .from) (t .before .loop .i + k)
+Reaches t k = let start = t .before .before .before in Passed (start .args .file .now) (start .args .from .0) (t .before .loop .i + k)
 
 -- What is known after each byte that is no LF.
 abbrev turn-1 : tie.Else1 Inv-loop μ-loop → Turn
@@ -88,8 +88,8 @@ add-if2 c = omega arith
 shared-slice-read-if2 : tie.Need-shared-slice-read-if2 Inv-loop μ-loop
 shared-slice-read-if2 c = omega arith
 
-add-result : tie.Need-add-result Inv-loop μ-loop
-add-result c = omega arith
+add-t10 : tie.Need-add-t10 Inv-loop μ-loop
+add-t10 c = omega arith
 
 returns-2 : tie.Need-returns-2 Inv-loop μ-loop
 returns-2 c = found (passed-1 (c .before .before)) (omega arith) (c .if2 .taken)
@@ -100,8 +100,8 @@ add-if3 c = omega arith
 shared-slice-read-if3 : tie.Need-shared-slice-read-if3 Inv-loop μ-loop
 shared-slice-read-if3 c = omega arith
 
-add-result-2 : tie.Need-add-result-2 Inv-loop μ-loop
-add-result-2 c = omega arith
+add-t12 : tie.Need-add-t12 Inv-loop μ-loop
+add-t12 c = omega arith
 
 returns-3 : tie.Need-returns-3 Inv-loop μ-loop
 returns-3 c = found (passed-2 (c .before .before)) (omega arith) (c .if3 .taken)
@@ -112,8 +112,8 @@ add-if4 c = omega arith
 shared-slice-read-if4 : tie.Need-shared-slice-read-if4 Inv-loop μ-loop
 shared-slice-read-if4 c = omega arith
 
-add-result-3 : tie.Need-add-result-3 Inv-loop μ-loop
-add-result-3 c = omega arith
+add-t14 : tie.Need-add-t14 Inv-loop μ-loop
+add-t14 c = omega arith
 
 returns-4 : tie.Need-returns-4 Inv-loop μ-loop
 returns-4 c = found (passed-3 (c .before .before)) (omega arith) (c .if4 .taken)
@@ -124,8 +124,8 @@ add-if5 c = omega arith
 shared-slice-read-if5 : tie.Need-shared-slice-read-if5 Inv-loop μ-loop
 shared-slice-read-if5 c = omega arith
 
-add-result-4 : tie.Need-add-result-4 Inv-loop μ-loop
-add-result-4 c = omega arith
+add-t16 : tie.Need-add-t16 Inv-loop μ-loop
+add-t16 c = omega arith
 
 returns-5 : tie.Need-returns-5 Inv-loop μ-loop
 returns-5 c = found (passed-4 (c .before .before)) (omega arith) (c .if5 .taken)
@@ -136,8 +136,8 @@ add-if6 c = omega arith
 shared-slice-read-if6 : tie.Need-shared-slice-read-if6 Inv-loop μ-loop
 shared-slice-read-if6 c = omega arith
 
-add-result-5 : tie.Need-add-result-5 Inv-loop μ-loop
-add-result-5 c = omega arith
+add-t18 : tie.Need-add-t18 Inv-loop μ-loop
+add-t18 c = omega arith
 
 returns-6 : tie.Need-returns-6 Inv-loop μ-loop
 returns-6 c = found (passed-5 (c .before .before)) (omega arith) (c .if6 .taken)
@@ -148,8 +148,8 @@ add-if7 c = omega arith
 shared-slice-read-if7 : tie.Need-shared-slice-read-if7 Inv-loop μ-loop
 shared-slice-read-if7 c = omega arith
 
-add-result-6 : tie.Need-add-result-6 Inv-loop μ-loop
-add-result-6 c = omega arith
+add-t20 : tie.Need-add-t20 Inv-loop μ-loop
+add-t20 c = omega arith
 
 returns-7 : tie.Need-returns-7 Inv-loop μ-loop
 returns-7 c = found (passed-6 (c .before .before)) (omega arith) (c .if7 .taken)
@@ -160,8 +160,8 @@ add-if8 c = omega arith
 shared-slice-read-if8 : tie.Need-shared-slice-read-if8 Inv-loop μ-loop
 shared-slice-read-if8 c = omega arith
 
-add-result-7 : tie.Need-add-result-7 Inv-loop μ-loop
-add-result-7 c = omega arith
+add-t22 : tie.Need-add-t22 Inv-loop μ-loop
+add-t22 c = omega arith
 
 returns-8 : tie.Need-returns-8 Inv-loop μ-loop
 returns-8 c = found (passed-7 (c .before .before)) (omega arith) (c .if8 .taken)
@@ -193,31 +193,31 @@ lf-from-spec =
     returns
     add-if2
     shared-slice-read-if2
-    add-result
+    add-t10
     returns-2
     add-if3
     shared-slice-read-if3
-    add-result-2
+    add-t12
     returns-3
     add-if4
     shared-slice-read-if4
-    add-result-3
+    add-t14
     returns-4
     add-if5
     shared-slice-read-if5
-    add-result-4
+    add-t16
     returns-5
     add-if6
     shared-slice-read-if6
-    add-result-5
+    add-t18
     returns-6
     add-if7
     shared-slice-read-if7
-    add-result-6
+    add-t20
     returns-7
     add-if8
     shared-slice-read-if8
-    add-result-7
+    add-t22
     returns-8
     add-i
     loop-less

@@ -6,10 +6,12 @@ use Rattle.line.proofs.cut.line_end.Statement.{statement}
 use Rattle.line.proofs.cut.line_end.Tie as tie
 
 returns : tie.Need-returns
-returns c = let a = c .before .args in end-no-lf (a .file .now) (a .from) (a .lf) (omega arith)
+returns c = let a = c .before .args in end-no-lf (a .file .now) (a .from .0) (a .lf .0) (omega arith)
 
 returns-2 : tie.Need-returns-2
-returns-2 c = let a = c .before .before .args in end-empty (a .file .now) (a .from) (a .lf) (omega arith)
+returns-2 c =
+    let start = c .before .before .before in
+    let a = start .args in end-empty (a .file .now) (a .from .0) (a .lf .0) (omega arith)
 
 sub-last : tie.Need-sub-last
 sub-last c = search needs
@@ -18,10 +20,14 @@ shared-slice-read-if3 : tie.Need-shared-slice-read-if3
 shared-slice-read-if3 c = search needs
 
 returns-3 : tie.Need-returns-3
-returns-3 c = let a = c .before .before .before .before .args in end-no-cr (a .file .now) (a .from) (a .lf) (c .if3 .taken)
+returns-3 c =
+    let start = c .before .before .before .before .before in
+    let a = start .args in end-no-cr (a .file .now) (a .from .0) (a .lf .0) (c .if3 .taken)
 
 returns-4 : tie.Need-returns-4
-returns-4 c = let a = c .before .before .before .before .args in end-cr (a .file .now) (a .from) (a .lf) (omega arith) (omega arith) (c .if3 .left)
+returns-4 c =
+    let start = c .before .before .before .before .before in
+    let a = start .args in end-cr (a .file .now) (a .from .0) (a .lf .0) (omega arith) (omega arith) (c .if3 .left)
 
 pub line-end-spec : {M : Type 1} → statement M
 line-end-spec =

@@ -11,13 +11,18 @@ lf-from-requires c κs = omega arith
 line-end-requires : tie.Need-line-end-requires
 line-end-requires c κs = search needs
 
-add-after : tie.Need-add-after
-add-after c = let a = c .before .before .before .args in
-    omega (arith, lf-fits (a .file .now) (a .from) (c .before .lf-from .result) (omega arith) (c .before .lf-from .ensures))
+add-t6 : tie.Need-add-t6
+add-t6 c =
+    let start = c .before .before .before .before in
+    let a = start .args in
+    omega (arith, lf-fits (a .file .now) (a .from .0) (c .before .before .lf-from .result .0) (omega arith) (c .before .before .lf-from .ensures))
 
 returns : tie.Need-returns
-returns c = let a = c .before .before .before .args in
-    cuts (a .file .now) (a .from) (c .before .lf-from .result) (omega arith) (c .before .lf-from .ensures) (c .line-end .result) (c .line-end .ensures)
+returns c =
+    let start = c .before .before .before .before in
+    let a = start .args in
+    cuts (a .file .now) (a .from .0) (c .before .before .lf-from .result .0) (omega arith) (c .before .before .lf-from .ensures)
+    (c .before .line-end .result .0) (c .before .line-end .ensures)
 
 pub next-spec : {M : Type 1} → statement M
-next-spec = tie.close (tie.spec lf-from-requires line-end-requires add-after returns)
+next-spec = tie.close (tie.spec lf-from-requires line-end-requires add-t6 returns)

@@ -13,12 +13,17 @@ byte-at-requires : tie.Need-byte-at-requires
 byte-at-requires c κs = search needs
 
 returns : tie.Need-returns
-returns c = let l = c .before .before .before .before .args .line .now in
+returns c =
+    let start = c .before .before .before .before in
+    let l = start .args .line .now in
     sym (plain-line l (c .before .before .run-end .ensures) (λ e. c .if1 .taken (c .before .byte-at .ensures ∙ e)))
 
 add-start : tie.Need-add-start
-add-start c = let l = c .before .before .before .before .args .line .now in
-    omega (arith, bang-inside l (c .before .before .run-end .ensures) (sym (c .before .byte-at .ensures) ∙ c .if1 .left))
+add-start c =
+    let at-run-end = c .before .before .before in
+    let start = at-run-end .before .before in
+    let l = start .args .line .now in
+    omega (arith, bang-inside l (at-run-end .run-end .ensures) (sym (c .before .before .byte-at .ensures) ∙ c .before .if1 .left))
 
 run-end-requires-2 : tie.Need-run-end-requires-2
 run-end-requires-2 c κs = search needs
@@ -30,15 +35,26 @@ part-named-start : tie.Need-part-named-start
 part-named-start c = search needs
 
 part-named-end : tie.Need-part-named-end
-part-named-end c = let l = c .before .before .before .before .before .args .line .now in
-    word-inside l (c .before .before .before .run-end .ensures) (c .run-end2 .ensures) (bang-inside l (c .before .before .before .run-end .ensures) (sym (c .before .before .byte-at .ensures) ∙ c .before .if1 .left))
+part-named-end c =
+    let at-byte-at = c .before .before .before in
+    let at-run-end = at-byte-at .before in
+    let start = at-run-end .before .before in
+    let l = start .args .line .now in
+    word-inside l (at-run-end .run-end .ensures) (c .run-end2 .ensures)
+    (bang-inside l (at-run-end .run-end .ensures) (sym (at-byte-at .byte-at .ensures) ∙ c .before .before .if1 .left))
 
 named-requires : tie.Need-named-requires
 named-requires c κs = search needs
 
 returns-2 : tie.Need-returns-2
-returns-2 c = let l = c .before .before .before .before .before .before .before .args .line .now in
-    c .named .ensures ∙ sym (marked-line l (c .before .before .before .before .before .run-end .ensures) (c .before .before .run-end2 .ensures) (sym (c .before .before .before .before .byte-at .ensures) ∙ c .before .before .before .if1 .left))
+returns-2 c =
+    let at-if1 = c .before .before .before .before in
+    let at-byte-at = at-if1 .before in
+    let at-run-end = at-byte-at .before in
+    let start = at-run-end .before .before in
+    let l = start .args .line .now in
+    c .named .ensures ∙ sym (marked-line l (at-run-end .run-end .ensures) (c .before .before .run-end2 .ensures)
+    (sym (at-byte-at .byte-at .ensures) ∙ at-if1 .if1 .left))
 
 pub directive-spec : {M : Type 1} → statement M
 directive-spec =
