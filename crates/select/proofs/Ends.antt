@@ -12,10 +12,10 @@ use Rattle.select.specs.Running.{ends}
 use Rattle.select.specs.declared.Answer.the-variants.{Accepted, Refused}
 
 module _ (x : Selection) (s : State) (r : Represents x s) (n : ℕ) where
-  pub no-group : x .depth ≡ 0 → Accepted n (x .count) ≡ ends n (s .groups) (s .count)
+  pub no-group : x .depth ≡ 0 → Accepted (record { 0 = n }) (x .count) ≡ ends n (s .groups) (s .count)
   no-group e = by (s .groups) refl
     where
-      by : (gs : List Group) → s .groups ≡ gs → Accepted n (x .count) ≡ ends n gs (s .count)
+      by : (gs : List Group) → s .groups ≡ gs → Accepted (record { 0 = n }) (x .count) ≡ ends n gs (s .count)
       by [] g = rw (r .count)
       by (y ∷ gs) g = absurd (omega (arith, e, r .depth, ap length g))
 

@@ -21,7 +21,7 @@ use Rattle.ruling.specs.Standings.{reads}
 use Rattle.nesting.specs.Decide.{State}
 use Rattle.nesting.proofs.Decided.{Marked, Unmarked, read-marked, unread-marked}
 use Rattle.select.specs.Step.{heard, step}
-use Rattle.select.specs.Select.{Result, accepted, refused, run, start, selection, answerOf, Selects}
+use Rattle.select.specs.Select.{Result, accepted, refused, run, start, selection, answerOf, linesOf, Selects}
 use Rattle.select.specs.declared.Answer.{Answer}
 use Rattle.select.specs.declared.Answer.the-variants.{Accepted, Refused}
 use Rattle.select.specs.Isolation.{MarksTell, Read, Agrees, Comparable, Isolation, TwoCalls}
@@ -82,15 +82,15 @@ marks-tell t n s l m s′ e = (λ h. rw e at (read-above t n s l h), by (reads (
     by false q h = let z : m ≤ 2 = rw e at (unread-below t n s l q) in absurd (omega arith)
 
 -- an accepted answer, and the marks that its call left
-accepted-call : (f t marks : List ℕ) (r : Answer) (left : List ℕ) → Selects f t marks r left → (n c : ℕ) → r ≡ Accepted n c
+accepted-call : (f t marks : List ℕ) (r : Answer) (left : List ℕ) → Selects f t marks r left → (n c : ℕ) → r ≡ Accepted (record { 0 = n }) c
     → (selection f t (length marks) ≡ accepted (take n left) c) × (length (take n left) ≡ n)
 accepted-call f t marks r left h n c e = by (selection f t (length marks)) refl
   where
     by : (w : Result) → selection f t (length marks) ≡ w → (selection f t (length marks) ≡ accepted (take n left) c) × (length (take n left) ≡ n)
     by (refused k j) q = let z : _≡_ {A = ℕ} 0 1 = cc (h .answer) in absurd (omega arith)
     by (accepted ms d) q =
-        let a : Accepted n c ≡ Accepted (length ms) d = sym e ∙ h .answer ∙ rw q in
-        let i : length ms ≡ n = cc in
+        let a : Accepted (record { 0 = n }) c ≡ Accepted (record { 0 = length ms }) d = sym e ∙ h .answer ∙ rw q in
+        let i : length ms ≡ n = ap linesOf (sym a) in
         let j : c ≡ d = cc in
         let m : left ≡ ms ++ drop (length ms) marks = h .marks-are ∙ rw q in
         let k : take n left ≡ ms = ap (take n) m ∙ take-at ms (drop (length ms) marks) n i in

@@ -20,7 +20,7 @@ use Rattle.select.specs.declared.Answer.the-variants.{Accepted, Refused}
 
 -- the answer after n lines, with these groups open
 abbrev pub ends : (n : ℕ) → List Group → (count : ℕ) → Answer
-ends n [] c = Accepted n c
+ends n [] c = Accepted (record { 0 = n }) c
 ends n (group s b l ∷ gs) c = Refused (record { number = FILE-UNFINISHED; line = record { 0 = l } })
 
 -- the marks of the lines so far in front of what comes of the others

@@ -4,6 +4,7 @@ use crate::step;
 use line::cut;
 use nesting::Selection;
 use units::LineNumber;
+use units::Offset;
 use units::Refusal;
 ghost use mathlib.Core.Path.{_≡_};
 ghost use mathlib.Core.Bool.{true};
@@ -35,9 +36,9 @@ pub fn refused(number: u8, line: LineNumber) -> Answer
 }
 
 // The answer after the last of n lines: all groups are closed, or the innermost open one is at fault.
-fn finish(x: Selection, n: usize) -> Answer
+fn finish(x: Selection, n: LineNumber) -> Answer
     requires { ⌜ x .depth ≤ 16 ⌝ }
-    ensures { λ r. ⌜ ((s : State) → Represents x s → r ≡ ends n (s .groups) (s .count)) ⌝ }
+    ensures { λ r. ⌜ ((s : State) → Represents x s → r ≡ ends (n .0) (s .groups) (s .count)) ⌝ }
 {
     let depth = x.depth;
     if depth == 0 {
@@ -57,30 +58,31 @@ pub fn run<'a>(marks: &mut [u8], file: &'a [u8], table: &'a [u8]) -> Answer
     let mut x = fresh();
     // the mark that plain lines have now
     let mut mark = ruling::KEPT;
-    let mut at: usize = 0;
-    let mut n: usize = 0;
-    while at < file.len() {
+    let mut at = Offset(0);
+    let mut n = LineNumber(0);
+    while at.0 < file.len() {
         let c = cut::next(file, at);
+        let start = at.0;
         let end = c.end;
-        let after = c.after;
         let e = end.0;
-        if step::is_wordless(&file[at..e]) {
-            marks[n] = mark;
-            n += 1;
-            at = after.0;
+        let i = n.0;
+        let line = LineNumber(i + 1);
+        if step::is_wordless(&file[start..e]) {
+            marks[i] = mark;
         } else {
-            let z = step::step(table, LineNumber(n + 1), x, &file[at..e]);
+            let z = step::step(table, line, x, &file[start..e]);
             let ok = z.ok;
             if !ok {
-                return refused(z.number, LineNumber(n + 1));
+                return refused(z.number, line);
             }
-            marks[n] = z.mark;
+            marks[i] = z.mark;
             let next = z.next;
             x = next;
             mark = step::plain_mark(x);
-            n += 1;
-            at = after.0;
         }
+        n = line;
+        let after = c.after;
+        at = after;
     }
     finish(x, n)
 }

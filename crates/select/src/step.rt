@@ -9,6 +9,7 @@ use text::bytes;
 use text::runs;
 use text::runs::Set;
 use units::LineNumber;
+use units::Offset;
 ghost use mathlib.Core.Path.{_≡_};
 ghost use mathlib.Core.Bool.{true};
 ghost use Prim.Native.Nat.{_+_, _^_, _≤_, _<_};
@@ -53,7 +54,7 @@ pub fn is_wordless(line: &[u8]) -> bool
     if MOST_LINE < line.len() {
         return false;
     }
-    let first = runs::run_end(line, 0, Set::Blanks);
+    let first = runs::run_end(line, Offset(0), Set::Blanks);
     if bytes::byte_at(line, first) != b'!' {
         return true;
     }

@@ -8,7 +8,7 @@ use Rattle.select.proofs.run.finish.Statement.{statement}
 use Rattle.select.proofs.run.finish.Tie as tie
 
 returns : tie.Need-returns
-returns c = λ s r. no-group (c .before .args .t1) s r (c .before .args .n) (c .if1 .taken)
+returns c = λ s r. no-group (c .before .args .t1) s r (c .before .args .n .0) (c .if1 .taken)
 
 sub-t7 : tie.Need-sub-t7
 sub-t7 c = search needs
@@ -26,7 +26,7 @@ refused-requires : tie.Need-refused-requires
 refused-requires c κs = search needs
 
 returns-2 : tie.Need-returns-2
-returns-2 c = λ s r. c .refused .ensures ∙ top-line (c .before .before .before .args .t1) s r (c .before .before .before .args .n) (c .before .before .if1 .left)
+returns-2 c = λ s r. c .refused .ensures ∙ top-line (c .before .before .before .args .t1) s r (c .before .before .before .args .n .0) (c .before .before .if1 .left)
 
 pub finish-spec : {M : Type 1} → statement M
 finish-spec =

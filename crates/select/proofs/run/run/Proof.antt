@@ -2,6 +2,7 @@
 use native.Mathlib.Omega.{arith}
 use Prim.Native.Nat.{_-_}
 use mathlib.Core.Path.{_≡_, refl, _∙_}
+use mathlib.Core.Logic.{⊎-elim}
 use lib.ListN.{length, length-set}
 use borrow.Author.Needs.{needs}
 use borrow.Author.Tests.{not-true, not-false}
@@ -12,10 +13,11 @@ use Rattle.select.proofs.run.run.Statement.{statement}
 use Rattle.select.proofs.run.run.Tie as tie
 
 abbrev Inv-loop : tie.InvT-loop
-Inv-loop marks₀ file table x₀ mark₀ at₀ n₀ marks x mark at n = Underway file table marks₀ x at n marks × (length marks ≡ length marks₀) × MarksPlain x mark
+Inv-loop marks₀ file table x₀ mark₀ at₀ n₀ marks x mark at n =
+    Underway file table marks₀ x (at .0) (n .0) marks × (length marks ≡ length marks₀) × MarksPlain x mark
 
 abbrev μ-loop : tie.MeasureT-loop
-μ-loop marks₀ file table x₀ mark₀ at₀ n₀ marks x mark at n = length file - at
+μ-loop marks₀ file table x₀ mark₀ at₀ n₀ marks x mark at n = length file - at .0
 
 fresh-requires : tie.Need-fresh-requires Inv-loop μ-loop
 fresh-requires c κs = search needs
@@ -23,74 +25,54 @@ fresh-requires c κs = search needs
 loop-holds : tie.Need-loop-holds Inv-loop μ-loop
 loop-holds c = (begun _ _ _ (c .fresh .result) (c .fresh .ensures), refl, start-kept (c .fresh .result) (c .fresh .ensures))
 
+-- The next line.
 next-requires : tie.Need-next-requires Inv-loop μ-loop
-next-requires c κs = c .loop-test .taken
+next-requires c κs = c .if1 .taken
 
--- A line without a word.
+add-is-wordless : tie.Need-add-is-wordless Inv-loop μ-loop
+add-is-wordless c =
+    let loop = c .before .before .before .before in
+    let start = loop .before .before .before .before .before in
+    omega (arith, as-many-lines (loop .loop .inv .0), start .pre .2)
+
 sub-is-wordless : tie.Need-sub-is-wordless Inv-loop μ-loop
 sub-is-wordless c = search needs
 
 part-is-wordless-start : tie.Need-part-is-wordless-start Inv-loop μ-loop
-part-is-wordless-start c = c .before .before .next .ensures .starts
+part-is-wordless-start c = c .before .next .ensures .starts
 
 part-is-wordless-end : tie.Need-part-is-wordless-end Inv-loop μ-loop
-part-is-wordless-end c = c .before .before .next .ensures .within
+part-is-wordless-end c = c .before .next .ensures .within
 
 is-wordless-requires : tie.Need-is-wordless-requires Inv-loop μ-loop
 is-wordless-requires c κs = search needs
 
+-- A line without a word.
 slice-write-marks : tie.Need-slice-write-marks Inv-loop μ-loop
 slice-write-marks c =
-    let cut = c .before .before .before .before .before in
-    let loop = cut .before .before in
+    let cut = c .before .before .before .before in
+    let loop = cut .before .before .before in
     let start = loop .before .before .before .before .before in
     omega (arith, inside (loop .loop .inv .0) (cut .next .ensures), start .pre .1, loop .loop .inv .1)
 
-add-n : tie.Need-add-n Inv-loop μ-loop
-add-n c =
-    let loop = c .before .before .before .before .before .before .before in
-    omega (arith, as-many-lines (loop .loop .inv .0))
-
-loop-less : tie.Need-loop-less Inv-loop μ-loop
-loop-less c =
-    let cut = c .before .before .before .before .before in
-    omega (arith, cut .next .ensures .onward)
-
-loop-again : tie.Need-loop-again Inv-loop μ-loop
-loop-again c =
-    let cut = c .before .before .before .before .before in
-    let loop = cut .before .before in
-    let start = loop .before .before .before .before .before in
-    let now = loop .loop in
-    let plain = c .before .is-wordless .ensures (c .if1 .taken) in (
-      passes-plain (now .inv .0) (cut .next .ensures) (now .mark) (now .inv .2) plain (start .pre .0) (start .pre .1),
-      length-set (now .marks) (now .n) (now .mark) ∙ now .inv .1,
-      now .inv .2,
-    )
-
 -- Any other line.
-add-t22 : tie.Need-add-t22 Inv-loop μ-loop
-add-t22 c =
-    let loop = c .before .before .before .before .before .before .before in
-    omega (arith, as-many-lines (loop .loop .inv .0))
-
 sub-step : tie.Need-sub-step Inv-loop μ-loop
 sub-step c = search needs
 
 part-step-start : tie.Need-part-step-start Inv-loop μ-loop
 part-step-start c =
-    let cut = c .before .before .before .before .before in
+    let cut = c .before .before .before .before in
     cut .next .ensures .starts
 
 part-step-end : tie.Need-part-step-end Inv-loop μ-loop
 part-step-end c =
-    let cut = c .before .before .before .before .before in
+    let cut = c .before .before .before .before in
     cut .next .ensures .within
 
 step-requires : tie.Need-step-requires Inv-loop μ-loop
 step-requires c κs =
-    let cut = c .before .before .before .before .before .before in
-    let loop = cut .before .before in
+    let cut = c .before .before .before .before .before in
+    let loop = cut .before .before .before in
     let start = loop .before .before .before .before .before in
     let u = loop .loop .inv .0 in (
       start .pre .0,
@@ -98,11 +80,6 @@ step-requires c κs =
       omega (arith, u .represents .depth, u .represents .shallow),
       few-counted u (start .pre .2),
     )
-
-add-t29 : tie.Need-add-t29 Inv-loop μ-loop
-add-t29 c =
-    let loop = c .before .before .before .before .before .before .before .before .before .before in
-    omega (arith, as-many-lines (loop .loop .inv .0))
 
 refused-requires : tie.Need-refused-requires Inv-loop μ-loop
 refused-requires c κs = search needs
@@ -115,67 +92,70 @@ same-length c =
 returns : tie.Need-returns Inv-loop μ-loop
 returns c =
     let stepped = c .before .before in
-    let cut = stepped .before .before .before .before .before .before .before in
-    let loop = cut .before .before in
+    let cut = stepped .before .before .before .before .before .before in
+    let loop = cut .before .before .before in
     let u = loop .loop .inv .0 in
     let meets = stepped .step .ensures (u .reached) (u .represents) in
     refused-run _ _ _ (loop .loop .marks) (c .refused .result) _ _
-    (stops u (cut .next .ensures) (stepped .step .result) meets (not-true _ (c .before .if2 .taken)))
+    (stops u (cut .next .ensures) (stepped .step .result) meets (not-true _ (c .before .if3 .taken)))
     (c .refused .ensures)
 
 slice-write-marks-2 : tie.Need-slice-write-marks-2 Inv-loop μ-loop
 slice-write-marks-2 c =
-    let cut = c .before .before .before .before .before .before .before .before in
-    let loop = cut .before .before in
+    let cut = c .before .before .before .before .before .before .before in
+    let loop = cut .before .before .before in
     let start = loop .before .before .before .before .before in
     omega (arith, inside (loop .loop .inv .0) (cut .next .ensures), start .pre .1, loop .loop .inv .1)
 
 plain-mark-requires : tie.Need-plain-mark-requires Inv-loop μ-loop
 plain-mark-requires c κs =
     let stepped = c .before .before in
-    let cut = stepped .before .before .before .before .before .before .before in
-    let loop = cut .before .before in
+    let cut = stepped .before .before .before .before .before .before in
+    let loop = cut .before .before .before in
     let start = loop .before .before .before .before .before in
     let u = loop .loop .inv .0 in
     let meets = stepped .step .ensures (u .reached) (u .represents) in
-    let after = goes-on u (cut .next .ensures) (stepped .step .result) meets (start .pre .0) (start .pre .1) (not-false _ (c .before .if2 .left)) in
+    let after = goes-on u (cut .next .ensures) (stepped .step .result) meets (start .pre .0) (start .pre .1) (not-false _ (c .before .if3 .left)) in
     omega (arith, after .represents .depth, after .represents .shallow)
 
-add-n-2 : tie.Need-add-n-2 Inv-loop μ-loop
-add-n-2 c =
-    let loop = c .before .before .before .before .before .before .before .before .before .before .before .before in
-    omega (arith, as-many-lines (loop .loop .inv .0))
+-- Either way, the line after it.
+loop-less : tie.Need-loop-less Inv-loop μ-loop
+loop-less c =
+    let cut = c .before .before .before .before .before in
+    omega (arith, cut .next .ensures .onward, cut .before .if1 .taken)
 
-loop-less-2 : tie.Need-loop-less-2 Inv-loop μ-loop
-loop-less-2 c =
-    let cut = c .before .before .before .before .before .before .before .before .before .before in
-    omega (arith, cut .next .ensures .onward)
-
-loop-again-2 : tie.Need-loop-again-2 Inv-loop μ-loop
-loop-again-2 c =
-    let stepped = c .before .before .before in
-    let cut = stepped .before .before .before .before .before .before .before in
-    let loop = cut .before .before in
+loop-again : tie.Need-loop-again Inv-loop μ-loop
+loop-again c =
+    let cut = c .before .before .before .before .before in
+    let loop = cut .before .before .before in
     let start = loop .before .before .before .before .before in
-    let u = loop .loop .inv .0 in
-    let meets = stepped .step .ensures (u .reached) (u .represents) in
-    let went = not-false _ (c .before .before .if2 .left) in (
-      goes-on u (cut .next .ensures) (stepped .step .result) meets (start .pre .0) (start .pre .1) went,
-      length-set (loop .loop .marks) (loop .loop .n) (stepped .step .result .mark) ∙ loop .loop .inv .1,
-      c .plain-mark .ensures,
-    )
+    let now = loop .loop in
+    let u = now .inv .0 in
+    ⊎-elim
+    (λ passed. rw (passed .1, passed .2, passed .3) (
+      passes-plain u (cut .next .ensures) (now .mark) (now .inv .2) (c .before .before .is-wordless .ensures (passed .0 .taken)) (start .pre .0) (start .pre .1),
+      length-set (now .marks) (now .n .0) (now .mark) ∙ now .inv .1,
+      now .inv .2,
+    ))
+    (λ stepped. rw (stepped .6, stepped .7, stepped .8) (
+      goes-on u (cut .next .ensures) (stepped .2 .result) (stepped .2 .ensures (u .reached) (u .represents)) (start .pre .0) (start .pre .1) (not-false _ (stepped .3 .left)),
+      length-set (now .marks) (now .n .0) (stepped .2 .result .mark) ∙ now .inv .1,
+      stepped .5 .ensures,
+    ))
+    (c .before .if2 .came)
 
 -- After the last line.
 finish-requires : tie.Need-finish-requires Inv-loop μ-loop
-finish-requires c κs = let u = c .before .loop .inv .0 in omega (arith, u .represents .depth, u .represents .shallow)
+finish-requires c κs = let u = c .before .before .loop .inv .0 in omega (arith, u .represents .depth, u .represents .shallow)
 
 same-length-2 : tie.Need-same-length-2 Inv-loop μ-loop
-same-length-2 c = c .before .before .loop .inv .1
+same-length-2 c = let loop = c .before .before .before in loop .loop .inv .1
 
 returns-2 : tie.Need-returns-2 Inv-loop μ-loop
 returns-2 c =
-    let u = c .before .before .loop .inv .0 in
-    finished u (c .before .loop-test .left) (c .finish .result) (c .finish .ensures (u .reached) (u .represents))
+    let loop = c .before .before .before in
+    let u = loop .loop .inv .0 in
+    finished u (c .before .if1 .left) (c .finish .result) (c .finish .ensures (u .reached) (u .represents))
 
 pub run-spec : {M : Type 1} → statement M
 run-spec =
@@ -186,28 +166,23 @@ run-spec =
     fresh-requires
     loop-holds
     next-requires
+    add-is-wordless
     sub-is-wordless
     part-is-wordless-start
     part-is-wordless-end
     is-wordless-requires
     slice-write-marks
-    add-n
-    loop-less
-    loop-again
-    add-t22
     sub-step
     part-step-start
     part-step-end
     step-requires
-    add-t29
     refused-requires
     same-length
     returns
     slice-write-marks-2
     plain-mark-requires
-    add-n-2
-    loop-less-2
-    loop-again-2
+    loop-less
+    loop-again
     finish-requires
     same-length-2
     returns-2)
