@@ -56,8 +56,8 @@ pub fn directive(line: &[u8]) -> Directive
         return Directive::Plain;
     }
     let start = first.0 + 1;
-    let after = runs::run_end(line, Offset(start), Set::Letters);
-    let end = after.0;
+    let word_end = runs::run_end(line, Offset(start), Set::Letters);
+    let end = word_end.0;
     named(&line[start..end])
 }
 
