@@ -4,7 +4,7 @@ use Prim.Native.Nat.{ℕ, _+_, _≤_, _<_}
 use native.Mathlib.Omega.{arith}
 use native.Mathlib.Nat.{add-zero}
 use mathlib.Core.Path.{_≡_, sym, _∙_}
-use mathlib.Core.Bool.{true, false, false≢true}
+use mathlib.Core.Bool.{Bool, true, false, false≢true}
 use mathlib.Core.List.{List}
 use lib.ListN.{length}
 use lib.Dec.{ltb}
@@ -13,6 +13,7 @@ use Rattle.units.specs.Refusals.{LINE-LONG}
 use Rattle.text.proofs.Laws.{pick-case}
 use Rattle.settings.specs.Table.{wellFormed}
 use Rattle.line.specs.Directives.{directiveOf, textOf}
+use Rattle.line.specs.declared.Directive.{Directive}
 use Rattle.line.specs.declared.Directive.the-variants.{Plain}
 use Rattle.condition.specs.Conditions.{says, countOf}
 use Rattle.condition.specs.declared.Condition.{Condition}
@@ -21,6 +22,7 @@ use Rattle.condition.proofs.Counts.{count-small}
 use Rattle.nesting.specs.Groups.{standingOf}
 use Rattle.text.specs.Bytes.{pick}
 use Rattle.ruling.specs.Standings.{reads, live}
+use Rattle.ruling.specs.declared.Standing.{Standing}
 use Rattle.ruling.specs.Rules.{KEPT, DROPPED}
 use Rattle.nesting.specs.Decide.{State, Outcome, go, stop, decided}
 use Rattle.nesting.specs.Stack.{Meets}
@@ -29,7 +31,17 @@ use Rattle.nesting.specs.declared.Step.{Step}
 use Rattle.nesting.proofs.Decided.{Counts, decided-counts}
 use Rattle.select.specs.Step.{heard, step}
 
+-- a directive that is read is not plain
+pub other-read : (d : Directive) (v : Standing) → reads d v ≡ true → d ≡ Plain → ⊥
+unfolding reads
+other-read d v h e = let k : false ≡ true = rw e at h in false≢true k
+
 module _ (t : List ℕ) (n : ℕ) (s : State) (l : List ℕ) where
+  -- whether a line is read, by what the code knows of its head and of the innermost group
+  pub read-as : (d : Directive) (v : Standing) (b : Bool) → d ≡ directiveOf l → v ≡ standingOf (s .groups) → reads d v ≡ b
+      → reads (directiveOf l) (standingOf (s .groups)) ≡ b
+  read-as d v b e k h = rw (← e, ← k) h
+
   pub long-step : 1024 < length l → step t n s l ≡ stop LINE-LONG
   unfolding step
   long-step h = rw (lt-ltb 1024 (length l) h)

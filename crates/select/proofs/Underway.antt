@@ -6,8 +6,8 @@ use native.Mathlib.Numerals.{add-one}
 use mathlib.Core.Path.{_≡_, refl, sym, ap, _∙_}
 use mathlib.Core.Bool.{Bool, true, false, false≢true}
 use mathlib.Core.List.{List, [], _∷_, _++_, append-assoc}
-use lib.ListN.{length, getD, take, drop, set, length-append, drop-of-length-le}
-use lib.Seq.{drop-cons, set-at}
+use lib.ListN.{length, getD, take, drop, set, length-append, length-drop, drop-of-length-le}
+use lib.Seq.{drop-cons, set-at, length-take-le}
 use Rattle.settings.specs.Table.{wellFormed}
 use Rattle.line.specs.Lines.{lines}
 use Rattle.line.specs.Directives.{directiveOf}
@@ -127,12 +127,14 @@ module _ {f t marks₀ : List ℕ} {x : Selection} {at n : ℕ} {marks : List �
                   counted = omega (arith, step-small t (n + 1) (u .reached) line sound m s q, u .counted);
                 }
 
-    -- a line without a word needs no step: it leaves the selection, and its mark is that of plain lines there
-    pub passes-plain : (mark : ℕ) → MarksPlain x mark → (length line ≤ 1024) × (directiveOf line ≡ Plain) → wellFormed t ≡ true
+    -- a plain line that is not too long needs no step: it leaves the selection, and its mark is that of plain lines there
+    pub passes-plain : (mark : ℕ) → MarksPlain x mark → r .end .0 - at ≤ 1024 → directiveOf line ≡ Plain → wellFormed t ≡ true
         → length (lines f) ≤ length marks₀ → Underway f t marks₀ x (r .after .0) (n + 1) (set marks n mark)
-    passes-plain mark kept plain sound room =
+    passes-plain mark kept short plain sound room =
+        let within : r .end .0 - at ≤ length (drop at f) = omega (arith, length-drop at f, cut .within) in
+        let few : length line ≤ 1024 = omega (arith, length-take-le (r .end .0 - at) (drop at f) within, short) in
         goes-on (record { next = x; ok = true; number = 0; mark = mark })
-        (rw (plain-step t (n + 1) (u .reached) line (plain .0) (plain .1)) (refl, kept (u .reached) (u .represents), u .represents, refl))
+        (rw (plain-step t (n + 1) (u .reached) line few plain) (refl, kept (u .reached) (u .represents), u .represents, refl))
         sound room refl
 
   -- no line is left

@@ -2,6 +2,7 @@
 use crate::Answer;
 use crate::step;
 use line::cut;
+use line::word;
 use nesting::Selection;
 use units::LineNumber;
 use units::Offset;
@@ -67,10 +68,12 @@ pub fn run<'a>(marks: &mut [u8], file: &'a [u8], table: &'a [u8]) -> Answer
         let e = end.0;
         let i = n.0;
         let line = LineNumber(i + 1);
-        if step::is_wordless(&file[start..e]) {
+        let head = word::read_head(&file[start..e]);
+        let d = head.directive;
+        if step::is_passed(d, e - start) {
             marks[i] = mark;
         } else {
-            let z = step::step(table, line, x, &file[start..e]);
+            let z = step::step(table, line, x, &file[start..e], head);
             let ok = z.ok;
             if !ok {
                 return refused(z.number, line);

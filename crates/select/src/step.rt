@@ -1,20 +1,17 @@
 // One line of a selection.
 use condition::Condition;
+use line::Directive;
+use line::Head;
 use line::word;
 use nesting::Selection;
 use nesting::Step;
 use nesting::decide;
 use nesting::stack;
-use text::bytes;
-use text::runs;
-use text::runs::Set;
 use units::LineNumber;
-use units::Offset;
 ghost use mathlib.Core.Path.{_≡_};
 ghost use mathlib.Core.Bool.{true};
 ghost use Prim.Native.Nat.{_+_, _^_, _≤_, _<_};
-ghost use lib.ListN.{length};
-ghost use Rattle.line.specs.Directives.{directiveOf};
+ghost use Rattle.line.specs.Cutting.{ReadsHead};
 ghost use Rattle.line.specs.declared.Directive.the-variants.{Plain};
 ghost use Rattle.settings.specs.Table.{wellFormed};
 ghost use Rattle.condition.specs.Conditions.{countOf};
@@ -47,18 +44,17 @@ fn counted(x: Selection, n: usize) -> Selection
     y
 }
 
-// Whether a line has no word, its first byte that is no blank being no `!`, and is not too long: then it is plain.
-pub fn is_wordless(line: &[u8]) -> bool
-    ensures { λ r. ⌜ (r ≡ true → (length (now (line .entry)) ≤ 1024) × (directiveOf (now (line .entry)) ≡ Plain)) ⌝ }
+// Whether a line of this many bytes is plain and not too long: then it leaves the selection, and all that it needs is its mark.
+pub fn is_passed(d: Directive, len: usize) -> bool
+    ensures { λ r. ⌜ (r ≡ true → (len ≤ 1024) × (d ≡ Plain)) ⌝ }
 {
-    if MOST_LINE < line.len() {
+    if MOST_LINE < len {
         return false;
     }
-    let first = runs::run_end(line, Offset(0), Set::Blanks);
-    if bytes::byte_at(line, first) != b'!' {
-        return true;
+    match d {
+        Directive::Plain => true,
+        _ => false,
     }
-    false
 }
 
 // The mark of a plain line in a selection.
@@ -73,19 +69,20 @@ pub fn plain_mark(x: Selection) -> u8
     }
 }
 
-// Line n of a file, in a selection.
-pub fn step<'a>(table: &'a [u8], n: LineNumber, x: Selection, line: &'a [u8]) -> Step
-    requires { ⌜ (wellFormed (now table) ≡ true) × (n .0 < 65536) × (x .depth ≤ 16) × (x .count < 2 ^ 63) ⌝ }
+// Line n of a file with its head, in a selection.
+pub fn step<'a>(table: &'a [u8], n: LineNumber, x: Selection, line: &'a [u8], head: Head) -> Step
+    requires { ⌜ (wellFormed (now table) ≡ true) × (n .0 < 65536) × (x .depth ≤ 16) × (x .count < 2 ^ 63) × ReadsHead (now line) head ⌝ }
     ensures { λ z. ⌜ ((s : State) → Represents x s → Meets x z (stepOf (now (table .entry)) (n .0) s (now (line .entry)))) ⌝ }
 {
     if MOST_LINE < line.len() {
         return stack::refused(units::LINE_LONG, x);
     }
-    let d = word::directive(line);
+    let d = head.directive;
     if !ruling::reads(d, stack::standing(x)) {
         return decide::unread(d, n, x);
     }
-    let c = condition::says(table, d, word::text(line));
+    let from = head.text;
+    let c = condition::says(table, d, word::text(line, from));
     let z = decide::decide(d, c, n, counted(x, count_of(c)));
     let ok = z.ok;
     if ok {

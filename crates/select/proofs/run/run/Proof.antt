@@ -1,7 +1,7 @@
 -- Each turn takes one line off what is underway; the answer is that of what is left.
 use native.Mathlib.Omega.{arith}
 use Prim.Native.Nat.{_-_}
-use mathlib.Core.Path.{_≡_, refl, _∙_}
+use mathlib.Core.Path.{_≡_, refl, sym, _∙_}
 use mathlib.Core.Logic.{⊎-elim}
 use lib.ListN.{length, length-set}
 use borrow.Author.Needs.{needs}
@@ -29,28 +29,36 @@ loop-holds c = (begun _ _ _ (c .fresh .result) (c .fresh .ensures), refl, start-
 next-requires : tie.Need-next-requires Inv-loop μ-loop
 next-requires c κs = c .if1 .taken
 
-add-is-wordless : tie.Need-add-is-wordless Inv-loop μ-loop
-add-is-wordless c =
+add-read-head : tie.Need-add-read-head Inv-loop μ-loop
+add-read-head c =
     let loop = c .before .before .before .before in
     let start = loop .before .before .before .before .before in
     omega (arith, as-many-lines (loop .loop .inv .0), start .pre .2)
 
-sub-is-wordless : tie.Need-sub-is-wordless Inv-loop μ-loop
-sub-is-wordless c = search needs
+sub-read-head : tie.Need-sub-read-head Inv-loop μ-loop
+sub-read-head c = search needs
 
-part-is-wordless-start : tie.Need-part-is-wordless-start Inv-loop μ-loop
-part-is-wordless-start c = c .before .next .ensures .starts
+part-read-head-start : tie.Need-part-read-head-start Inv-loop μ-loop
+part-read-head-start c = c .before .next .ensures .starts
 
-part-is-wordless-end : tie.Need-part-is-wordless-end Inv-loop μ-loop
-part-is-wordless-end c = c .before .next .ensures .within
+part-read-head-end : tie.Need-part-read-head-end Inv-loop μ-loop
+part-read-head-end c = c .before .next .ensures .within
 
-is-wordless-requires : tie.Need-is-wordless-requires Inv-loop μ-loop
-is-wordless-requires c κs = search needs
+read-head-requires : tie.Need-read-head-requires Inv-loop μ-loop
+read-head-requires c κs = search needs
 
--- A line without a word.
+sub-is-passed : tie.Need-sub-is-passed Inv-loop μ-loop
+sub-is-passed c =
+    let cut = c .before .before .before in
+    cut .next .ensures .starts
+
+is-passed-requires : tie.Need-is-passed-requires Inv-loop μ-loop
+is-passed-requires c κs = search needs
+
+-- A plain line.
 slice-write-marks : tie.Need-slice-write-marks Inv-loop μ-loop
 slice-write-marks c =
-    let cut = c .before .before .before .before in
+    let cut = c .before .before .before .before .before in
     let loop = cut .before .before .before in
     let start = loop .before .before .before .before .before in
     omega (arith, inside (loop .loop .inv .0) (cut .next .ensures), start .pre .1, loop .loop .inv .1)
@@ -61,24 +69,26 @@ sub-step c = search needs
 
 part-step-start : tie.Need-part-step-start Inv-loop μ-loop
 part-step-start c =
-    let cut = c .before .before .before .before in
+    let cut = c .before .before .before .before .before in
     cut .next .ensures .starts
 
 part-step-end : tie.Need-part-step-end Inv-loop μ-loop
 part-step-end c =
-    let cut = c .before .before .before .before in
+    let cut = c .before .before .before .before .before in
     cut .next .ensures .within
 
 step-requires : tie.Need-step-requires Inv-loop μ-loop
 step-requires c κs =
-    let cut = c .before .before .before .before .before in
+    let cut = c .before .before .before .before .before .before in
     let loop = cut .before .before .before in
     let start = loop .before .before .before .before .before in
-    let u = loop .loop .inv .0 in (
+    let u = loop .loop .inv .0 in
+    let head = c .before .before .before in (
       start .pre .0,
       omega (arith, inside u (cut .next .ensures), start .pre .2),
       omega (arith, u .represents .depth, u .represents .shallow),
       few-counted u (start .pre .2),
+      head .read-head .ensures,
     )
 
 refused-requires : tie.Need-refused-requires Inv-loop μ-loop
@@ -86,13 +96,13 @@ refused-requires c κs = search needs
 
 same-length : tie.Need-same-length Inv-loop μ-loop
 same-length c =
-    let loop = c .before .before .before .before .before .before .before .before .before .before .before in
+    let loop = c .before .before .before .before .before .before .before .before .before .before .before .before in
     loop .loop .inv .1
 
 returns : tie.Need-returns Inv-loop μ-loop
 returns c =
     let stepped = c .before .before in
-    let cut = stepped .before .before .before .before .before .before in
+    let cut = stepped .before .before .before .before .before .before .before in
     let loop = cut .before .before .before in
     let u = loop .loop .inv .0 in
     let meets = stepped .step .ensures (u .reached) (u .represents) in
@@ -102,7 +112,7 @@ returns c =
 
 slice-write-marks-2 : tie.Need-slice-write-marks-2 Inv-loop μ-loop
 slice-write-marks-2 c =
-    let cut = c .before .before .before .before .before .before .before in
+    let cut = c .before .before .before .before .before .before .before .before in
     let loop = cut .before .before .before in
     let start = loop .before .before .before .before .before in
     omega (arith, inside (loop .loop .inv .0) (cut .next .ensures), start .pre .1, loop .loop .inv .1)
@@ -110,7 +120,7 @@ slice-write-marks-2 c =
 plain-mark-requires : tie.Need-plain-mark-requires Inv-loop μ-loop
 plain-mark-requires c κs =
     let stepped = c .before .before in
-    let cut = stepped .before .before .before .before .before .before in
+    let cut = stepped .before .before .before .before .before .before .before in
     let loop = cut .before .before .before in
     let start = loop .before .before .before .before .before in
     let u = loop .loop .inv .0 in
@@ -121,19 +131,22 @@ plain-mark-requires c κs =
 -- Either way, the line after it.
 loop-less : tie.Need-loop-less Inv-loop μ-loop
 loop-less c =
-    let cut = c .before .before .before .before .before in
+    let cut = c .before .before .before .before .before .before in
     omega (arith, cut .next .ensures .onward, cut .before .if1 .taken)
 
 loop-again : tie.Need-loop-again Inv-loop μ-loop
 loop-again c =
-    let cut = c .before .before .before .before .before in
+    let cut = c .before .before .before .before .before .before in
     let loop = cut .before .before .before in
     let start = loop .before .before .before .before .before in
     let now = loop .loop in
     let u = now .inv .0 in
     ⊎-elim
-    (λ passed. rw (passed .1, passed .2, passed .3) (
-      passes-plain u (cut .next .ensures) (now .mark) (now .inv .2) (c .before .before .is-wordless .ensures (passed .0 .taken)) (start .pre .0) (start .pre .1),
+    (λ passed.
+    let is-plain = c .before .before .is-passed .ensures (passed .0 .taken) in
+    let head = c .before .before .before .read-head .ensures in
+    rw (passed .1, passed .2, passed .3) (
+      passes-plain u (cut .next .ensures) (now .mark) (now .inv .2) (is-plain .0) (sym (head .directive) ∙ is-plain .1) (start .pre .0) (start .pre .1),
       length-set (now .marks) (now .n .0) (now .mark) ∙ now .inv .1,
       now .inv .2,
     ))
@@ -166,11 +179,13 @@ run-spec =
     fresh-requires
     loop-holds
     next-requires
-    add-is-wordless
-    sub-is-wordless
-    part-is-wordless-start
-    part-is-wordless-end
-    is-wordless-requires
+    add-read-head
+    sub-read-head
+    part-read-head-start
+    part-read-head-end
+    read-head-requires
+    sub-is-passed
+    is-passed-requires
     slice-write-marks
     sub-step
     part-step-start

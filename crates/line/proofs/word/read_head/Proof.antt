@@ -1,10 +1,10 @@
 -- The byte after the blanks decides whether there is a word; the run of letters behind it is the word.
 use native.Mathlib.Omega.{arith}
 use mathlib.Core.Path.{sym, _∙_}
-use Rattle.line.proofs.Words.{bang-inside, plain-line, word-inside, marked-line}
+use Rattle.line.proofs.Words.{bang-inside, plain-line, word-inside, marked-line, text-starts}
 use borrow.Author.Needs.{needs}
-use Rattle.line.proofs.word.directive.Statement.{statement}
-use Rattle.line.proofs.word.directive.Tie as tie
+use Rattle.line.proofs.word.read_head.Statement.{statement}
+use Rattle.line.proofs.word.read_head.Tie as tie
 
 run-end-requires : tie.Need-run-end-requires
 run-end-requires c κs = search needs
@@ -16,7 +16,8 @@ returns : tie.Need-returns
 returns c =
     let start = c .before .before .before .before in
     let l = start .args .line .now in
-    sym (plain-line l (c .before .before .run-end .ensures) (λ e. c .if1 .taken (c .before .byte-at .ensures ∙ e)))
+    let plain = plain-line l (c .before .before .run-end .ensures) (λ e. c .if1 .taken (c .before .byte-at .ensures ∙ e)) in
+    record { directive = sym plain; within = omega arith; starts = λ other. absurd (other plain) }
 
 add-start : tie.Need-add-start
 add-start c =
@@ -53,11 +54,17 @@ returns-2 c =
     let at-run-end = at-byte-at .before in
     let start = at-run-end .before .before in
     let l = start .args .line .now in
-    c .named .ensures ∙ sym (marked-line l (at-run-end .run-end .ensures) (c .before .before .run-end2 .ensures)
-    (sym (at-byte-at .byte-at .ensures) ∙ at-if1 .if1 .left))
+    let blanks = at-run-end .run-end .ensures in
+    let letters = c .before .before .run-end2 .ensures in
+    let bang = sym (at-byte-at .byte-at .ensures) ∙ at-if1 .if1 .left in
+    record {
+      directive = c .named .ensures ∙ sym (marked-line l blanks letters bang);
+      within = word-inside l blanks letters (bang-inside l blanks bang);
+      starts = λ _. text-starts l blanks letters;
+    }
 
-pub directive-spec : {M : Type 1} → statement M
-directive-spec =
+pub read-head-spec : {M : Type 1} → statement M
+read-head-spec =
     tie.close
     (tie.spec
     run-end-requires
