@@ -20,17 +20,19 @@ pub struct Cut {
 // Where the line ends that starts at `from` and has its LF, or else the file's end, at `lf`. A CR before an LF is dropped, but only one
 // of this line's own bytes; at the file's end a CR stands before no LF and stays.
 fn line_end(file: &[u8], from: Offset, lf: Offset) -> Offset
+    requires { ⌜ lf .0 ≤ length (now file) ⌝ }
     ensures { λ r. ⌜ r .0 ≡ lineEnd (now (file .entry)) (from .0) (lf .0) ⌝ }
 {
     let at = lf.0;
-    if file.len() <= at {
-        return lf;
-    }
     if at <= from.0 {
         return lf;
     }
     let last = at - 1;
     if file[last] != b'\r' {
+        return lf;
+    }
+    // last, since few lines come so far
+    if file.len() <= at {
         return lf;
     }
     Offset(last)

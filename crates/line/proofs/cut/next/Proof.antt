@@ -9,7 +9,9 @@ lf-from-requires : tie.Need-lf-from-requires
 lf-from-requires c κs = omega arith
 
 line-end-requires : tie.Need-line-end-requires
-line-end-requires c κs = search needs
+line-end-requires c κs =
+    let a = c .before .before .args in
+    lf-fits (a .file .now) (a .from .0) (c .lf-from .result .0) (omega arith) (c .lf-from .ensures)
 
 add-t6 : tie.Need-add-t6
 add-t6 c =
