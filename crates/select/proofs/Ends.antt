@@ -6,7 +6,7 @@ use mathlib.Core.List.{List, [], _∷_}
 use lib.ListN.{length, getD}
 use Rattle.nesting.specs.Groups.{Group, group}
 use Rattle.nesting.specs.Decide.{State}
-use Rattle.nesting.specs.Stack.{Stacked, Represents}
+use Rattle.nesting.specs.Stack.{Lined, Represents}
 use Rattle.nesting.specs.declared.Selection.{Selection}
 use Rattle.select.specs.Running.{ends}
 use Rattle.select.specs.declared.Answer.the-variants.{Accepted, Refused}
@@ -25,6 +25,6 @@ module _ (x : Selection) (s : State) (r : Represents x s) (n : ℕ) where
       by : (gs : List Group) → s .groups ≡ gs → Refused (record { number = 21; line = record { 0 = getD (x .lines) (x .depth - 1) 0 } }) ≡ ends n gs (s .count)
       by [] g = absurd (h (r .depth ∙ ap length g))
       by (group w b l ∷ gs) g =
-          let k : Stacked (group w b l ∷ gs) (x .standings) (x .lines) = rw g at (r .stacked) in
+          let k : Lined (group w b l ∷ gs) (x .lines) = rw g at (r .lined) in
           let i : x .depth - 1 ≡ length gs = omega (arith, r .depth, ap length g) in
-          rw (i, k .1)
+          rw (i, k .0)
