@@ -1,13 +1,11 @@
 -- A selection holds the open groups: the innermost group's digit, and what a group opened, changed or closed leaves. Assumes nothing.
 use Prim.Native.Nat.{ℕ, zero, suc, _+_, _-_, _*_, _/_, _%_, _≤_, _<_}
 use native.Mathlib.Omega.{arith}
-use native.Mathlib.Numerals.{add-one}
 use mathlib.Core.Path.{_≡_, refl, sym, ap, _∙_}
 use mathlib.Core.Bool.{Bool, true, false}
 use mathlib.Core.List.{List, [], _∷_}
 use lib.ListN.{length, getD, set, length-set}
 use lib.Seq.{getD-set-same, getD-set-other}
-use lib.Dec.{leb}
 use Rattle.nesting.specs.Groups.{Group, group, standingOf, closedOf}
 use Rattle.nesting.specs.Decide.{State, state, turnTo, finalTo, closeOne}
 use Rattle.nesting.specs.Stack.{entryOf, standingIn, closedIn, packed, Lined, Represents}
@@ -104,7 +102,12 @@ module _ (x : Selection) (t : State) (r : Represents x t) where
   top-closed some = top some (λ e s b. closedIn e ≡ b) closed-told
 
   pub pushed : (s : Standing) (n : ℕ) → x .depth < 16
-      → Represents (record { depth = x .depth + 1; count = x .count; standings = x .standings % 1152921504606846976 * 16 + entryOf s false; lines = set (x .lines) (x .depth) n })
+      → Represents (record {
+        depth = x .depth + 1;
+        count = x .count;
+        standings = x .standings % 1152921504606846976 * 16 + entryOf s false;
+        lines = set (x .lines) (x .depth) n;
+      })
       (state (group s false n ∷ t .groups) (t .count))
   pushed s n h =
       let small : packed (t .groups) < 1152921504606846976 = packed-small 15 (t .groups) (omega (arith, r .depth)) in
@@ -117,10 +120,14 @@ module _ (x : Selection) (t : State) (r : Represents x t) where
         lines-long = length-set (x .lines) (x .depth) n ∙ r .lines-long;
       }
 
+  -- with the same lines and the same count
+  abbrev standing-as : (depth standings : ℕ) → Selection
+  standing-as d w = record { depth = d; count = x .count; standings = w; lines = x .lines }
+
   -- the innermost group changed to stand otherwise, with its `!else` met or not
   module _ (some : x .depth ≡ 0 → ⊥) (s : Standing) where
     with-digit : (w : Standing) (b c : Bool) (n : ℕ) (gs : List Group) → t .groups ≡ group w b n ∷ gs
-        → Represents (record { depth = x .depth; count = x .count; standings = x .standings / 16 * 16 + entryOf s c; lines = x .lines }) (state (group s c n ∷ gs) (t .count))
+        → Represents (standing-as (x .depth) (x .standings / 16 * 16 + entryOf s c)) (state (group s c n ∷ gs) (t .count))
     with-digit w b c n gs e =
         let k : Lined (group w b n ∷ gs) (x .lines) = rw e at (r .lined) in
         record {
@@ -132,30 +139,30 @@ module _ (x : Selection) (t : State) (r : Represents x t) where
           lines-long = r .lines-long;
         }
 
-    pub turned : Represents (record { depth = x .depth; count = x .count; standings = x .standings / 16 * 16 + entryOf s (closedOf (t .groups)); lines = x .lines })
+    pub turned : Represents (standing-as (x .depth) (x .standings / 16 * 16 + entryOf s (closedOf (t .groups))))
         (state (turnTo s (t .groups)) (t .count))
     turned = by (t .groups) refl
       where
         by : (gs : List Group) → t .groups ≡ gs
-            → Represents (record { depth = x .depth; count = x .count; standings = x .standings / 16 * 16 + entryOf s (closedOf gs); lines = x .lines }) (state (turnTo s gs) (t .count))
+            → Represents (standing-as (x .depth) (x .standings / 16 * 16 + entryOf s (closedOf gs))) (state (turnTo s gs) (t .count))
         by [] e = absurd (some (r .depth ∙ ap length e))
         by (group w b n ∷ gs) e = with-digit w b b n gs e
 
-    pub finished : Represents (record { depth = x .depth; count = x .count; standings = x .standings / 16 * 16 + entryOf s true; lines = x .lines })
+    pub finished : Represents (standing-as (x .depth) (x .standings / 16 * 16 + entryOf s true))
         (state (finalTo s (t .groups)) (t .count))
     finished = by (t .groups) refl
       where
         by : (gs : List Group) → t .groups ≡ gs
-            → Represents (record { depth = x .depth; count = x .count; standings = x .standings / 16 * 16 + entryOf s true; lines = x .lines }) (state (finalTo s gs) (t .count))
+            → Represents (standing-as (x .depth) (x .standings / 16 * 16 + entryOf s true)) (state (finalTo s gs) (t .count))
         by [] e = absurd (some (r .depth ∙ ap length e))
         by (group w b n ∷ gs) e = with-digit w b true n gs e
 
   pub popped : (x .depth ≡ 0 → ⊥)
-      → Represents (record { depth = x .depth - 1; count = x .count; standings = x .standings / 16; lines = x .lines }) (state (closeOne (t .groups)) (t .count))
+      → Represents (standing-as (x .depth - 1) (x .standings / 16)) (state (closeOne (t .groups)) (t .count))
   popped some = by (t .groups) refl
     where
       by : (gs : List Group) → t .groups ≡ gs
-          → Represents (record { depth = x .depth - 1; count = x .count; standings = x .standings / 16; lines = x .lines }) (state (closeOne gs) (t .count))
+          → Represents (standing-as (x .depth - 1) (x .standings / 16)) (state (closeOne gs) (t .count))
       by [] e = absurd (some (r .depth ∙ ap length e))
       by (group w b n ∷ gs) e =
           let k : Lined (group w b n ∷ gs) (x .lines) = rw e at (r .lined) in

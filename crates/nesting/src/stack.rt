@@ -9,8 +9,8 @@ ghost use mathlib.Core.Bool.{false};
 ghost use mathlib.Core.List.{_∷_};
 ghost use Prim.Native.Nat.{_≤_, _<_};
 ghost use Rattle.nesting.specs.Groups.{group, standingOf, closedOf};
-ghost use Rattle.nesting.specs.Decide.{State, state, Outcome, go, stop, turnTo, finalTo, closeOne, applied};
-ghost use Rattle.nesting.specs.Stack.{standingNumber, entryOf, standingIn, closedIn, Represents, Meets};
+ghost use Rattle.nesting.specs.Decide.{State, state, go, stop, turnTo, finalTo, closeOne, applied};
+ghost use Rattle.nesting.specs.Stack.{standingNumber, entryOf, standingIn, Represents, Meets};
 
 fn number_of(s: Standing) -> u64
     ensures { λ r. ⌜ r ≡ standingNumber s ⌝ }

@@ -50,7 +50,8 @@ module _ (t : List ℕ) (n : ℕ) (s : State) (l : List ℕ) where
   unfolding step
   decided-step h = rw (le-ltb 1024 (length l) h)
 
-  pub unread-step : length l ≤ 1024 → reads (directiveOf l) (standingOf (s .groups)) ≡ false → step t n s l ≡ decided (directiveOf l) (Fails 0) n (s .count) (s .groups)
+  pub unread-step : length l ≤ 1024 → reads (directiveOf l) (standingOf (s .groups)) ≡ false
+      → step t n s l ≡ decided (directiveOf l) (Fails 0) n (s .count) (s .groups)
   unfolding heard
   unread-step h r = decided-step h ∙ rw (r, add-zero (s .count))
 
@@ -68,7 +69,8 @@ module _ (t : List ℕ) (n : ℕ) (s : State) (l : List ℕ) where
     heard-small : countOf (heard t (s .groups) l) < 200
     unfolding heard
     heard-small =
-        pick-case (λ (c : Condition). countOf c < 200) (reads (directiveOf l) (standingOf (s .groups))) (λ _. count-small t (directiveOf l) (textOf l) sound) (λ _. omega arith)
+        pick-case (λ (c : Condition). countOf c < 200) (reads (directiveOf l) (standingOf (s .groups)))
+        (λ _. count-small t (directiveOf l) (textOf l) sound) (λ _. omega arith)
 
     -- a step's count, if it has one
     Small : Outcome → Type 0
@@ -83,8 +85,10 @@ module _ (t : List ℕ) (n : ℕ) (s : State) (l : List ℕ) where
     step-is-small : Small (step t n s l)
     unfolding step Small
     step-is-small =
+        let c = heard t (s .groups) l in
+        let k = s .count + countOf c in
         pick-case Small (ltb 1024 (length l)) (λ _. tt)
-        (λ _. counts-small (decided (directiveOf l) (heard t (s .groups) l) n (s .count + countOf (heard t (s .groups) l)) (s .groups)) (decided-counts (directiveOf l) (heard t (s .groups) l) n (s .count + countOf (heard t (s .groups) l)) (s .groups)))
+        (λ _. counts-small (decided (directiveOf l) c n k (s .groups)) (decided-counts (directiveOf l) c n k (s .groups)))
 
     pub step-small : (m : ℕ) (s′ : State) → step t n s l ≡ go m s′ → s′ .count < s .count + 200
     unfolding Small

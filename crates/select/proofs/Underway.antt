@@ -4,7 +4,7 @@ use Prim.Native.Nat.{ℕ, _+_, _-_, _*_, _^_, _≤_, _<_}
 use native.Mathlib.Omega.{arith}
 use native.Mathlib.Numerals.{add-one}
 use mathlib.Core.Path.{_≡_, refl, sym, ap, _∙_}
-use mathlib.Core.Bool.{Bool, true, false, false≢true}
+use mathlib.Core.Bool.{true, false, false≢true}
 use mathlib.Core.List.{List, [], _∷_, _++_, append-assoc}
 use lib.ListN.{length, getD, take, drop, set, length-append, length-drop, drop-of-length-le}
 use lib.Seq.{drop-cons, set-at, length-take-le}
@@ -14,17 +14,15 @@ use Rattle.line.specs.Directives.{directiveOf}
 use Rattle.line.specs.Cutting.{Cuts}
 use Rattle.line.specs.declared.cut.Cut.{Cut}
 use Rattle.line.specs.declared.Directive.the-variants.{Plain}
-use Rattle.condition.specs.Conditions.{countOf}
 use Rattle.nesting.specs.Groups.{Group, group}
 use Rattle.nesting.specs.Decide.{State, Outcome, go, stop}
 use Rattle.nesting.specs.Stack.{Represents, Meets}
 use Rattle.nesting.specs.declared.Selection.{Selection}
 use Rattle.nesting.specs.declared.Step.{Step}
 use Rattle.select.specs.Step.{step}
-use Rattle.select.specs.Select.{Result, accepted, refused, prepend, atEnd, after, run, start, answerOf}
+use Rattle.select.specs.Select.{Result, accepted, refused, prepend, atEnd, after, run, start}
 use Rattle.select.specs.Running.{ends, prepended, Runs, MarksPlain}
 use Rattle.select.specs.declared.Answer.{Answer}
-use Rattle.select.specs.declared.Answer.the-variants.{Accepted, Refused}
 use Rattle.select.proofs.Steps.{step-small, plain-step}
 
 prepended-accepted : (ms : List ℕ) (c : ℕ) → prepended ms (accepted [] c) ≡ accepted ms c

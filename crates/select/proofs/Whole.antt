@@ -1,12 +1,12 @@
 -- The whole selection from its parts: a refusal before any line, an accepted run, a refused run. Assumes nothing.
 use Prim.Native.Nat.{ℕ}
 use native.Mathlib.Omega.{arith}
-use mathlib.Core.Path.{_≡_, refl, sym, ap, _∙_}
+use mathlib.Core.Path.{_≡_, refl, _∙_}
 use mathlib.Core.List.{List}
 use lib.ListN.{length, replicate}
 use Rattle.units.specs.declared.Refusal.{Refusal}
 use Rattle.line.specs.Lines.{lines}
-use Rattle.select.specs.Select.{Result, accepted, refused, run, start, selection, answerOf, Selects}
+use Rattle.select.specs.Select.{Result, accepted, refused, run, start, selection, Selects}
 use Rattle.select.specs.Running.{Runs, Fit}
 use Rattle.select.specs.declared.Answer.{Answer}
 use Rattle.units.specs.declared.LineNumber.{LineNumber}

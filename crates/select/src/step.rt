@@ -48,11 +48,8 @@ fn counted(x: Selection, n: usize) -> Selection
 pub fn is_passed(d: Directive, len: usize) -> bool
     ensures { λ r. ⌜ (r ≡ true → (len ≤ 1024) × (d ≡ Plain)) ⌝ }
 {
-    if MOST_LINE < len {
-        return false;
-    }
     match d {
-        Directive::Plain => true,
+        Directive::Plain => len <= MOST_LINE,
         _ => false,
     }
 }

@@ -1,7 +1,6 @@
 -- The run up to the LF ends where what is left of it ends, at the start of every turn and after each byte of a turn.
 use Prim.Native.Nat.{ℕ, _≤_, _+_, _-_}
 use native.Mathlib.Omega.{arith}
-use mathlib.Core.List.{List}
 use lib.ListN.{length}
 use borrow.Author.Needs.{needs}
 use Rattle.line.proofs.Passing.{Passed, none-passed, found, one-more}

@@ -1,7 +1,6 @@
 -- The run up to the LF, or up to the file's end, and the line's end before it give the first line; the next starts one byte further.
 use native.Mathlib.Omega.{arith}
 use Rattle.line.proofs.FirstLine.{lf-fits, cuts}
-use borrow.Author.Needs.{needs}
 use Rattle.line.proofs.cut.next.Statement.{statement}
 use Rattle.line.proofs.cut.next.Tie as tie
 

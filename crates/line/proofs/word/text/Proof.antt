@@ -1,6 +1,6 @@
 -- A part that goes on to the line's end.
 use native.Mathlib.Omega.{arith}
-use mathlib.Core.Path.{_≡_, refl}
+use mathlib.Core.Path.{refl}
 use Rattle.text.proofs.Laws.{part-rest}
 use borrow.Author.Needs.{needs}
 use Rattle.line.proofs.word.text.Statement.{statement}

@@ -1,6 +1,5 @@
 -- The innermost group's digit tells.
 use Rattle.nesting.proofs.Stacks.{outside-closed, top-closed}
-use borrow.Author.Needs.{needs}
 use Rattle.nesting.proofs.stack.is_closed.Statement.{statement}
 use Rattle.nesting.proofs.stack.is_closed.Tie as tie
 

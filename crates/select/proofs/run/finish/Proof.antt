@@ -1,7 +1,5 @@
 -- The entry on top has the line of the innermost group.
-use native.Mathlib.Omega.{arith}
-use mathlib.Core.Path.{_≡_, refl, sym, ap, _∙_}
-use mathlib.Core.List.{List, [], _∷_}
+use mathlib.Core.Path.{_∙_}
 use Rattle.select.proofs.Ends.{no-group, top-line}
 use borrow.Author.Needs.{needs}
 use Rattle.select.proofs.run.finish.Statement.{statement}
@@ -26,7 +24,9 @@ refused-requires : tie.Need-refused-requires
 refused-requires c κs = search needs
 
 returns-2 : tie.Need-returns-2
-returns-2 c = λ s r. c .refused .ensures ∙ top-line (c .before .before .before .args .t1) s r (c .before .before .before .args .n .0) (c .before .before .if1 .left)
+returns-2 c = λ s r.
+    let a = c .before .before .before .args in
+    c .refused .ensures ∙ top-line (a .t1) s r (a .n .0) (c .before .before .if1 .left)
 
 pub finish-spec : {M : Type 1} → statement M
 finish-spec =

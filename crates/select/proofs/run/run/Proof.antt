@@ -150,8 +150,10 @@ loop-again c =
       length-set (now .marks) (now .n .0) (now .mark) ∙ now .inv .1,
       now .inv .2,
     ))
-    (λ stepped. rw (stepped .6, stepped .7, stepped .8) (
-      goes-on u (cut .next .ensures) (stepped .2 .result) (stepped .2 .ensures (u .reached) (u .represents)) (start .pre .0) (start .pre .1) (not-false _ (stepped .3 .left)),
+    (λ stepped.
+    let meets = stepped .2 .ensures (u .reached) (u .represents) in
+    rw (stepped .6, stepped .7, stepped .8) (
+      goes-on u (cut .next .ensures) (stepped .2 .result) meets (start .pre .0) (start .pre .1) (not-false _ (stepped .3 .left)),
       length-set (now .marks) (now .n .0) (stepped .2 .result .mark) ∙ now .inv .1,
       stepped .5 .ensures,
     ))

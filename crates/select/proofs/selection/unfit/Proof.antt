@@ -1,11 +1,7 @@
 -- The tests are those of the definition, in order.
 use native.Mathlib.Omega.{arith}
-use mathlib.Core.Path.{_≡_, refl, sym, ap, _∙_}
-use mathlib.Core.Bool.{true, false}
-use lib.ListN.{length}
+use mathlib.Core.Path.{sym, _∙_}
 use borrow.Author.Tests.{not-true, not-false}
-use Rattle.line.specs.Lines.{lines}
-use Rattle.settings.specs.Table.{wellFormed}
 use Rattle.select.proofs.Before.{malformed, long, many, short, fit}
 use borrow.Author.Needs.{needs}
 use Rattle.select.proofs.selection.unfit.Statement.{statement}
