@@ -45,10 +45,9 @@ fn finish(x: Selection, n: LineNumber) -> Answer
     if depth == 0 {
         return Answer::Accepted(n, x.count);
     }
-    refused(
-        units::FILE_UNFINISHED,
-        LineNumber(x.lines[depth - 1] as usize),
-    )
+    let last = depth - 1;
+    let line = x.lines[last] as usize;
+    refused(units::FILE_UNFINISHED, LineNumber(line))
 }
 
 // Marks the lines of a file one after the other, up to the first that is refused.
