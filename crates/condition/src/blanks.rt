@@ -3,6 +3,7 @@ use crate::Condition;
 use text::bytes;
 use text::runs;
 use text::runs::Set;
+use units::Offset;
 ghost use mathlib.Core.Path.{_≡_};
 ghost use lib.ListN.{drop};
 ghost use Rattle.condition.specs.Conditions.{spaced, idle, nothingSays};
@@ -11,15 +12,15 @@ ghost use Rattle.condition.specs.Conditions.{spaced, idle, nothingSays};
 pub fn is_spaced(text: &[u8]) -> bool
     ensures { λ r. ⌜ r ≡ spaced (now (text .entry)) ⌝ }
 {
-    runs::has(Set::Blanks, bytes::byte_at(text, 0))
+    runs::has(Set::Blanks, bytes::byte_at(text, Offset(0)))
 }
 
 // Whether nothing but blanks, and a comment where there is one, stands from a byte on.
-pub fn is_idle(text: &[u8], from: usize) -> bool
-    ensures { λ r. ⌜ r ≡ idle (drop from (now (text .entry))) ⌝ }
+pub fn is_idle(text: &[u8], from: Offset) -> bool
+    ensures { λ r. ⌜ r ≡ idle (drop (from .0) (now (text .entry))) ⌝ }
 {
     let end = runs::run_end(text, from, Set::Blanks);
-    if text.len() <= end {
+    if text.len() <= end.0 {
         return true;
     }
     bytes::byte_at(text, end) == b'#'
@@ -29,7 +30,7 @@ pub fn is_idle(text: &[u8], from: usize) -> bool
 pub fn nothing_says(text: &[u8]) -> Condition
     ensures { λ r. ⌜ r ≡ nothingSays (now (text .entry)) ⌝ }
 {
-    if is_idle(text, 0) {
+    if is_idle(text, Offset(0)) {
         Condition::Holds(0)
     } else {
         Condition::Wrong(units::TEXT_MALFORMED)

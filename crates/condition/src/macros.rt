@@ -20,14 +20,10 @@ pub struct Named {
     pub after: Offset,
 }
 
-fn name_over(start: usize, len: usize, after: usize) -> Named
-    ensures { λ r. ⌜ r ≡ nameOver start len after ⌝ }
+fn name_over(start: Offset, len: usize, after: Offset) -> Named
+    ensures { λ r. ⌜ r ≡ nameOver (start .0) len (after .0) ⌝ }
 {
-    Named {
-        start: Offset(start),
-        len,
-        after: Offset(after),
-    }
+    Named { start, len, after }
 }
 
 // `NAME`.
@@ -35,27 +31,27 @@ fn plain_name(text: &[u8]) -> Named
     ensures { λ r. ⌜ r ≡ plainName (now (text .entry)) ⌝ }
 {
     let n = names::macro_name(text);
-    name_over(0, n, n)
+    name_over(Offset(0), n, Offset(n))
 }
 
 // `$(NAME)`.
 fn used_name(text: &[u8]) -> Named
     ensures { λ r. ⌜ r ≡ usedName (now (text .entry)) ⌝ }
 {
-    if bytes::byte_at(text, 1) != b'(' {
-        return name_over(0, 0, 0);
+    if bytes::byte_at(text, Offset(1)) != b'(' {
+        return name_over(Offset(0), 0, Offset(0));
     }
     let n = names::macro_name(&text[2..]);
-    if bytes::byte_at(text, 2 + n) != b')' {
-        return name_over(0, 0, 0);
+    if bytes::byte_at(text, Offset(2 + n)) != b')' {
+        return name_over(Offset(0), 0, Offset(0));
     }
-    name_over(2, n, n + 3)
+    name_over(Offset(2), n, Offset(n + 3))
 }
 
 fn name_at(text: &[u8]) -> Named
     ensures { λ r. ⌜ r ≡ nameAt (now (text .entry)) ⌝ }
 {
-    if bytes::byte_at(text, 0) == b'$' {
+    if bytes::byte_at(text, Offset(0)) == b'$' {
         used_name(text)
     } else {
         plain_name(text)
@@ -91,11 +87,11 @@ fn named_says(table: &[u8], wanted: bool, text: &[u8], n: Named) -> Condition
         return Condition::Wrong(units::TEXT_MALFORMED);
     }
     let after = n.after;
-    if !blanks::is_idle(text, after.0) {
+    if !blanks::is_idle(text, after) {
         return Condition::Wrong(units::TEXT_MALFORMED);
     }
     let start = n.start;
-    let name = parts::part(text, start.0, n.len);
+    let name = parts::part(text, start, n.len);
     decide(wanted, values::is_missing(settings::lookup(table, name)))
 }
 
@@ -107,7 +103,8 @@ pub fn name_says(table: &[u8], wanted: bool, text: &[u8]) -> Condition
     if !blanks::is_spaced(text) {
         return Condition::Wrong(units::TEXT_MALFORMED);
     }
-    let first = runs::run_end(text, 0, Set::Blanks);
-    let rest = &text[first..];
+    let first = runs::run_end(text, Offset(0), Set::Blanks);
+    let start = first.0;
+    let rest = &text[start..];
     named_says(table, wanted, rest, name_at(rest))
 }

@@ -6,6 +6,7 @@ use expression::Parsed;
 use text::parts;
 use token::scan;
 use token::scan::Ending;
+use units::Offset;
 use units::TokenNumber;
 use value::Held;
 use value::Kind;
@@ -154,10 +155,10 @@ pub fn string<'a>(expr: &'a [u8], table: &'a [u8], a: Answer) -> &'a [u8]
 {
     match a {
         Answer::Value(v, _) => match v {
-            Value::Number(_) => parts::part(expr, 0, 0),
+            Value::Number(_) => parts::part(expr, Offset(0), 0),
             Value::String(p) => values::bytes(expr, table, p),
             Value::Wide(p) => values::bytes(expr, table, p),
         },
-        Answer::Refused(_) => parts::part(expr, 0, 0),
+        Answer::Refused(_) => parts::part(expr, Offset(0), 0),
     }
 }

@@ -28,7 +28,7 @@ pub extern "C" fn korzhinay_select<'a>(
 {
     match selection::select(marks, file, table) {
         Answer::Accepted(lines, count) => {
-            show_run(out, 0, lines as u64, count as u64);
+            show_run(out, 0, lines.0 as u64, count as u64);
             0
         }
         Answer::Refused(r) => {

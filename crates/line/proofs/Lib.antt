@@ -1,3 +1,4 @@
 pub mod FirstLine
 pub mod Words
 pub mod Counting
+pub mod Passing

@@ -1,17 +1,17 @@
--- Words compared by their length first, and the text after a word. Assumes nothing.
+-- Words compared by their length first, and where the text after a word starts. Assumes nothing.
 use Prim.Native.Nat.{ℕ, _+_, _-_, _≤_, _<_}
 use native.Mathlib.Omega.{arith}
 use mathlib.Core.Path.{_≡_, refl, sym, _∙_}
 use mathlib.Core.List.{List, [], _∷_}
 use mathlib.Core.Bool.{Bool, true, false}
-use lib.ListN.{length, getD, take, drop, drop-of-length-le}
+use lib.ListN.{length, getD, take, drop}
 use lib.Dec.{eqb}
 use borrow.Author.Tests.{eq-eqb, ne-eqb, eqb-false}
 use Rattle.text.specs.Bytes.{byte, pick}
 use Rattle.text.specs.Runs.{span}
 use Rattle.text.specs.Order.{alike}
 use Rattle.text.specs.declared.runs.Set.the-variants.{Blanks, Letters}
-use Rattle.text.proofs.Laws.{unlike-lengths, inside, part-rest, span-fits-at}
+use Rattle.text.proofs.Laws.{unlike-lengths, inside, span-fits-at}
 use Rattle.line.specs.Directives.{Word, words, named, wordStart, textStart, directiveOf}
 use Rattle.line.specs.declared.Directive.the-variants.{Plain, Unknown}
 
@@ -56,18 +56,6 @@ module _ (l : List ℕ) {first : ℕ} (at : first ≡ 0 + span Blanks l) where
   unfolding directiveOf
   plain-line h = rw (blanks, ne-eqb _ _ h)
 
-  -- a line of blanks has no text
-  pub no-text : length l ≤ first → drop (textStart l) l ≡ []
-  unfolding textStart
-  no-text h =
-      let past : length l ≤ first + 1 + span Letters (drop (first + 1) l) = omega arith in
-      rw word-start (drop-of-length-le l past)
-
-  -- where there is none, the text starts past the line
-  pub past-text : length l ≤ first → textStart l ≤ length l → ⊥
-  unfolding textStart
-  past-text h k = omega (arith, word-start)
-
   -- the letters behind that byte go up to `after`
   module _ {after : ℕ} (to : after ≡ first + 1 + span Letters (drop (first + 1) l)) where
     pub word-inside : first < length l → after ≤ length l
@@ -82,7 +70,3 @@ module _ (l : List ℕ) {first : ℕ} (at : first ≡ 0 + span Blanks l) where
     pub text-starts : after ≡ textStart l
     unfolding textStart
     text-starts = rw (word-start, ← to)
-
-    pub text-from : take (length l - after) (drop after l) ≡ drop (textStart l) l
-    unfolding textStart
-    text-from = rw (part-rest, word-start, ← to)

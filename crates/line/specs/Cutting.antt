@@ -10,8 +10,10 @@ use Rattle.text.specs.Bytes.{byte, pick}
 use Rattle.text.specs.Runs.{span}
 use Rattle.text.specs.declared.runs.Set.the-variants.{Line}
 use Rattle.line.specs.Lines.{lines}
-use Rattle.line.specs.Directives.{textStart, textOf}
+use Rattle.line.specs.Directives.{textStart, textOf, directiveOf}
 use Rattle.line.specs.declared.cut.Cut.{Cut}
+use Rattle.line.specs.declared.Head.{Head}
+use Rattle.line.specs.declared.Directive.the-variants.{Plain}
 
 -- The line that starts at a byte is cut off: its bytes are those up to `end`, and the other lines are those from `after` on, the byte
 -- behind its LF, or one past the file's end where it has none.
@@ -21,6 +23,12 @@ pub record Cuts (f : List ℕ) (from : ℕ) (r : Cut) : Type 0 where
   pub within : r .end .0 ≤ length f
   pub onward : from < r .after .0
   pub after-is : r .after .0 ≡ from + span Line (drop from f) + 1
+
+-- What a line is, and where the text after its word starts, for a line that is not plain.
+pub record ReadsHead (l : List ℕ) (r : Head) : Type 0 where
+  pub directive : r .directive ≡ directiveOf l
+  pub within : r .text .0 ≤ length l
+  pub starts : (directiveOf l ≡ Plain → ⊥) → r .text .0 ≡ textStart l
 
 -- The text after a line's word is handed on as a part of the line: its bytes, and its place in memory where the word ends within the line.
 pub record HandsText (l r : RefT (List ℕ)) : Type 0 where

@@ -1,10 +1,13 @@
 // A file cut into its lines.
 use text::runs;
 use text::runs::Set;
+use units::LineNumber;
 use units::Offset;
 ghost use mathlib.Core.Path.{_≡_};
-ghost use Prim.Native.Nat.{_<_};
-ghost use lib.ListN.{length};
+ghost use Prim.Native.Nat.{_+_, _≤_, _<_};
+ghost use lib.ListN.{length, drop};
+ghost use Rattle.text.specs.Runs.{span};
+ghost use Rattle.text.specs.declared.runs.Set.the-variants.{Line};
 ghost use Rattle.line.specs.Lines.{lines};
 ghost use Rattle.line.specs.Cutting.{lineEnd, opened, Cuts};
 
@@ -16,35 +19,71 @@ pub struct Cut {
 
 // Where the line ends that starts at `from` and has its LF, or else the file's end, at `lf`. A CR before an LF is dropped, but only one
 // of this line's own bytes; at the file's end a CR stands before no LF and stays.
-fn line_end(file: &[u8], from: usize, lf: usize) -> usize
-    ensures { λ r. ⌜ r ≡ lineEnd (now (file .entry)) from lf ⌝ }
+fn line_end(file: &[u8], from: Offset, lf: Offset) -> Offset
+    requires { ⌜ lf .0 ≤ length (now file) ⌝ }
+    ensures { λ r. ⌜ r .0 ≡ lineEnd (now (file .entry)) (from .0) (lf .0) ⌝ }
 {
-    if file.len() <= lf {
+    let at = lf.0;
+    if at <= from.0 {
         return lf;
     }
-    if lf <= from {
-        return lf;
-    }
-    let last = lf - 1;
+    let last = at - 1;
     if file[last] != b'\r' {
         return lf;
     }
-    last
+    // last, since few lines come so far
+    if file.len() <= at {
+        return lf;
+    }
+    Offset(last)
+}
+
+// Where the first LF from a byte on is, or the file's end. Eight bytes per turn, so that the loop's own cost is shared by eight.
+fn lf_from(file: &[u8], from: Offset) -> Offset
+    requires { ⌜ from .0 ≤ length (now file) ⌝ }
+    ensures { λ r. ⌜ r .0 ≡ from .0 + span Line (drop (from .0) (now (file .entry))) ⌝ }
+{
+    let mut i = from.0;
+    while 8 <= file.len() - i {
+        if file[i] == b'\n' {
+            return Offset(i);
+        }
+        if file[i + 1] == b'\n' {
+            return Offset(i + 1);
+        }
+        if file[i + 2] == b'\n' {
+            return Offset(i + 2);
+        }
+        if file[i + 3] == b'\n' {
+            return Offset(i + 3);
+        }
+        if file[i + 4] == b'\n' {
+            return Offset(i + 4);
+        }
+        if file[i + 5] == b'\n' {
+            return Offset(i + 5);
+        }
+        if file[i + 6] == b'\n' {
+            return Offset(i + 6);
+        }
+        if file[i + 7] == b'\n' {
+            return Offset(i + 7);
+        }
+        i += 8;
+    }
+    runs::run_end(file, Offset(i), Set::Line)
 }
 
 // The line that starts at a byte.
-pub fn next(file: &[u8], from: usize) -> Cut
-    requires { ⌜ from < length (now file) ⌝ }
-    ensures { λ r. ⌜ Cuts (now (file .entry)) from r ⌝ }
+pub fn next(file: &[u8], from: Offset) -> Cut
+    requires { ⌜ from .0 < length (now file) ⌝ }
+    ensures { λ r. ⌜ Cuts (now (file .entry)) (from .0) r ⌝ }
 {
-    let lf = runs::run_end(file, from, Set::Line);
+    let lf = lf_from(file, from);
     let end = line_end(file, from, lf);
     // past the end where no LF was found, so that no line starts there and no caller needs a case for it
-    let after = lf + 1;
-    Cut {
-        end: Offset(end),
-        after: Offset(after),
-    }
+    let after = Offset(lf.0 + 1);
+    Cut { end, after }
 }
 
 // Whether bytes follow the last LF.
@@ -58,17 +97,44 @@ fn is_open(file: &[u8]) -> bool
     file[n - 1] != b'\n'
 }
 
-// How many lines a file has. By its LFs, with one way out of the loop, so that the compiler takes many bytes at a time.
-pub fn count(file: &[u8]) -> usize
-    ensures { λ r. ⌜ r ≡ length (lines (now (file .entry))) ⌝ }
+// How many bytes are counted in one block: a multiple of 32, and few enough that a u8 can count their LFs.
+const BLOCK: usize = 224;
+
+// Where the block that starts at a byte ends.
+fn block_end(len: usize, from: Offset) -> Offset
+    requires { ⌜ from .0 < len ⌝ }
+    ensures { λ r. ⌜ (from .0 < r .0) × (r .0 ≤ len) × (r .0 ≤ from .0 + 224) ⌝ }
 {
-    let mut n = 0;
-    let mut i = 0;
-    while i < file.len() {
-        if file[i] == b'\n' {
-            n += 1;
-        }
-        i += 1;
+    let start = from.0;
+    if len - start <= BLOCK {
+        Offset(len)
+    } else {
+        Offset(start + BLOCK)
     }
-    if is_open(file) { n + 1 } else { n }
+}
+
+// How many lines a file has, by its LFs. The inner loop has no early exit and a u8 as its counter, so that it vectorises with a byte per
+// lane; a wider counter takes several times the instructions.
+pub fn count(file: &[u8]) -> LineNumber
+    ensures { λ r. ⌜ r .0 ≡ length (lines (now (file .entry))) ⌝ }
+{
+    let mut n: usize = 0;
+    let mut i: usize = 0;
+    while i < file.len() {
+        let block = block_end(file.len(), Offset(i));
+        let end = block.0;
+        let mut lfs: u8 = 0;
+        while i < end {
+            if file[i] == b'\n' {
+                lfs += 1;
+            }
+            i += 1;
+        }
+        n += lfs as usize;
+    }
+    if is_open(file) {
+        LineNumber(n + 1)
+    } else {
+        LineNumber(n)
+    }
 }

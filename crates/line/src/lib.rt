@@ -2,6 +2,8 @@
 pub mod cut;
 pub mod word;
 
+use units::Offset;
+
 // What a line is: plain, or a directive by its word.
 pub enum Directive {
     Plain,
@@ -12,4 +14,10 @@ pub enum Directive {
     Else,
     Endif,
     Unknown,
+}
+
+// The head of a line: what the line is, and where the text after its word starts.
+pub struct Head {
+    pub directive: Directive,
+    pub text: Offset,
 }

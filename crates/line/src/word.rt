@@ -1,14 +1,18 @@
 // What a line is by its word, and the text after the word.
 use crate::Directive;
+use crate::Head;
 use text::bytes;
 use text::order;
 use text::runs;
 use text::runs::Set;
+use units::Offset;
 ghost use mathlib.Core.Path.{_≡_};
 ghost use Rattle.text.specs.Bytes.{pick};
 ghost use Rattle.text.specs.Order.{alike};
-ghost use Rattle.line.specs.Directives.{words, named as namedIn, directiveOf};
-ghost use Rattle.line.specs.Cutting.{HandsText};
+ghost use Prim.Native.Nat.{_≤_};
+ghost use lib.ListN.{length};
+ghost use Rattle.line.specs.Directives.{words, named as namedIn, textStart};
+ghost use Rattle.line.specs.Cutting.{ReadsHead, HandsText};
 
 // The first of two answers where a word is spelled so, else the second.
 fn spelled(w: &[u8], text: &[u8], this: Directive, other: Directive) -> Directive
@@ -46,28 +50,30 @@ fn named(w: &[u8]) -> Directive
     }
 }
 
-// What a line is.
-pub fn directive(line: &[u8]) -> Directive
-    ensures { λ r. ⌜ r ≡ directiveOf (now (line .entry)) ⌝ }
+// What a line is, and where the text after its word starts. A line that has no word, or is plain by its word, has no such text: then the
+// place is some place within the line.
+pub fn read_head(line: &[u8]) -> Head
+    ensures { λ r. ⌜ ReadsHead (now (line .entry)) r ⌝ }
 {
-    let first = runs::run_end(line, 0, Set::Blanks);
+    let first = runs::run_end(line, Offset(0), Set::Blanks);
     if bytes::byte_at(line, first) != b'!' {
-        return Directive::Plain;
+        return Head {
+            directive: Directive::Plain,
+            text: Offset(0),
+        };
     }
-    let start = first + 1;
-    let end = runs::run_end(line, start, Set::Letters);
-    named(&line[start..end])
+    let start = first.0 + 1;
+    let text = runs::run_end(line, Offset(start), Set::Letters);
+    let end = text.0;
+    let directive = named(&line[start..end]);
+    Head { directive, text }
 }
 
-// The text after a line's word, up to the line's end. What it is for a line without a word is fixed too, so that any line may be asked.
-pub fn text(line: &[u8]) -> &[u8]
-    ensures { λ r. ⌜ HandsText (line .entry) r ⌝ }
+// The text after a line's word, from where it starts up to the line's end.
+pub fn text(line: &[u8], from: Offset) -> &[u8]
+    requires { ⌜ from .0 ≤ length (now line) ⌝ }
+    ensures { λ r. ⌜ (from .0 ≡ textStart (now (line .entry)) → HandsText (line .entry) r) ⌝ }
 {
-    let first = runs::run_end(line, 0, Set::Blanks);
-    if line.len() <= first {
-        return &line[0..0];
-    }
-    let start = first + 1;
-    let after = runs::run_end(line, start, Set::Letters);
-    &line[after..]
+    let start = from.0;
+    &line[start..]
 }

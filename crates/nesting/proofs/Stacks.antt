@@ -1,16 +1,14 @@
--- The arrays of a selection hold the open groups: what stands on top, and what a store above or at the top leaves. Assumes nothing.
-use Prim.Native.Nat.{ℕ, suc, _+_, _-_, _≤_, _<_}
+-- A selection holds the open groups: the innermost group's digit, and what a group opened, changed or closed leaves. Assumes nothing.
+use Prim.Native.Nat.{ℕ, zero, suc, _+_, _-_, _*_, _/_, _%_, _≤_, _<_}
 use native.Mathlib.Omega.{arith}
-use native.Mathlib.Numerals.{add-one}
 use mathlib.Core.Path.{_≡_, refl, sym, ap, _∙_}
 use mathlib.Core.Bool.{Bool, true, false}
 use mathlib.Core.List.{List, [], _∷_}
 use lib.ListN.{length, getD, set, length-set}
 use lib.Seq.{getD-set-same, getD-set-other}
-use lib.Dec.{leb}
 use Rattle.nesting.specs.Groups.{Group, group, standingOf, closedOf}
 use Rattle.nesting.specs.Decide.{State, state, turnTo, finalTo, closeOne}
-use Rattle.nesting.specs.Stack.{entryOf, standingIn, closedIn, Stacked, Represents}
+use Rattle.nesting.specs.Stack.{entryOf, standingIn, closedIn, packed, Lined, Represents}
 use Rattle.ruling.specs.declared.Standing.{Standing}
 use Rattle.ruling.specs.declared.Standing.the-variants.{Outside, Dead, Seeking, Taken, Past}
 use Rattle.nesting.specs.declared.Selection.{Selection}
@@ -46,35 +44,38 @@ none : (gs : List Group) → length gs ≡ 0 → gs ≡ []
 none [] h = refl
 none (g ∷ gs) h = absurd (omega arith)
 
--- the innermost group's entry
-module _ (ss ls : List ℕ) (n : ℕ) (some : n ≡ 0 → ⊥) where
-  top-entry : (P : ℕ → Standing → Bool → Type 0) → ((s : Standing) (b : Bool) → P (entryOf s b) s b)
-      → (gs : List Group) → n ≡ length gs → Stacked gs ss ls → P (getD ss (n - 1) 0) (standingOf gs) (closedOf gs)
-  top-entry P h [] e k = absurd (some e)
-  top-entry P h (group s b m ∷ gs) e k =
-      let i : n - 1 ≡ length gs = omega arith in
-      rw (i, k .0) (h s b)
+-- an entry is a digit, and as many digits as there are groups make up their number
+entry-small : (s : Standing) (b : Bool) → entryOf s b < 16
+entry-small Outside true = omega arith
+entry-small Outside false = omega arith
+entry-small Dead true = omega arith
+entry-small Dead false = omega arith
+entry-small Seeking true = omega arith
+entry-small Seeking false = omega arith
+entry-small Taken true = omega arith
+entry-small Taken false = omega arith
+entry-small Past true = omega arith
+entry-small Past false = omega arith
 
--- stores at a place where no group has its entry
-above-standing : (gs : List Group) (ss ls : List ℕ) (i v : ℕ) → length gs ≤ i → Stacked gs ss ls → Stacked gs (set ss i v) ls
-above-standing [] ss ls i v h k = tt
-above-standing (group s b n ∷ gs) ss ls i v h k = (getD-set-other ss i (length gs) v 0 (λ e. omega arith) ∙ k .0, k .1, above-standing gs ss ls i v (omega arith) (k .2))
+abbrev room : ℕ → ℕ
+room zero = 1
+room (suc k) = 16 * room k
 
-above-line : (gs : List Group) (ss ls : List ℕ) (i v : ℕ) → length gs ≤ i → Stacked gs ss ls → Stacked gs ss (set ls i v)
-above-line [] ss ls i v h k = tt
-above-line (group s b n ∷ gs) ss ls i v h k = (k .0, getD-set-other ls i (length gs) v 0 (λ e. omega arith) ∙ k .1, above-line gs ss ls i v (omega arith) (k .2))
+packed-small : (k : ℕ) (gs : List Group) → length gs ≤ k → packed gs < room k
+packed-small zero [] h = omega arith
+packed-small zero (g ∷ gs) h = absurd (omega arith)
+packed-small (suc k) [] h = omega (arith, packed-small k [] (omega arith))
+packed-small (suc k) (group s b n ∷ gs) h = omega (arith, packed-small k gs (omega arith), entry-small s b)
+
+-- a store at a place where no group has its line
+above-line : (gs : List Group) (ls : List ℕ) (i v : ℕ) → length gs ≤ i → Lined gs ls → Lined gs (set ls i v)
+above-line [] ls i v h k = tt
+above-line (group s b n ∷ gs) ls i v h k = (getD-set-other ls i (length gs) v 0 (λ e. omega arith) ∙ k .0, above-line gs ls i v (omega arith) (k .1))
 
 -- a group on top
-on-top : (gs : List Group) (ss ls : List ℕ) (i : ℕ) (s : Standing) (b : Bool) (n : ℕ) → i ≡ length gs → i < length ss → i < length ls → Stacked gs ss ls
-    → Stacked (group s b n ∷ gs) (set ss i (entryOf s b)) (set ls i n)
-on-top gs ss ls i s b n e h l k =
-    (ap (λ j. getD (set ss i (entryOf s b)) j 0) (sym e) ∙ getD-set-same ss i (entryOf s b) 0 h, ap (λ j. getD (set ls i n) j 0) (sym e) ∙ getD-set-same ls i n 0 l, above-line gs (set ss i (entryOf s b)) ls i n (omega arith) (above-standing gs ss ls i (entryOf s b) (omega arith) k))
-
--- the group on top changed
-changed : (w : Standing) (b : Bool) (n : ℕ) (gs : List Group) (ss ls : List ℕ) (i : ℕ) (s : Standing) (c : Bool) → i ≡ length gs → i < length ss
-    → Stacked (group w b n ∷ gs) ss ls → Stacked (group s c n ∷ gs) (set ss i (entryOf s c)) ls
-changed w b n gs ss ls i s c e h k =
-    (ap (λ j. getD (set ss i (entryOf s c)) j 0) (sym e) ∙ getD-set-same ss i (entryOf s c) 0 h, k .1, above-standing gs ss ls i (entryOf s c) (omega arith) (k .2))
+on-top : (gs : List Group) (ls : List ℕ) (i : ℕ) (s : Standing) (b : Bool) (n : ℕ) → i ≡ length gs → i < length ls → Lined gs ls
+    → Lined (group s b n ∷ gs) (set ls i n)
+on-top gs ls i s b n e l k = (ap (λ j. getD (set ls i n) j 0) (sym e) ∙ getD-set-same ls i n 0 l, above-line gs ls i n (omega arith) k)
 
 module _ (x : Selection) (t : State) (r : Represents x t) where
   pub outside : x .depth ≡ 0 → Outside ≡ standingOf (t .groups)
@@ -83,73 +84,94 @@ module _ (x : Selection) (t : State) (r : Represents x t) where
   pub outside-closed : x .depth ≡ 0 → false ≡ closedOf (t .groups)
   outside-closed e = sym (ap closedOf (none (t .groups) (sym (r .depth) ∙ e)))
 
-  pub top-standing : (x .depth ≡ 0 → ⊥) → standingIn (getD (x .standings) (x .depth - 1) 0) ≡ standingOf (t .groups)
-  top-standing h = top-entry (x .standings) (x .lines) (x .depth) h (λ e s b. standingIn e ≡ s) standing-told (t .groups) (r .depth) (r .stacked)
+  -- the innermost group's digit
+  top : (x .depth ≡ 0 → ⊥) → (P : ℕ → Standing → Bool → Type 0) → ((s : Standing) (b : Bool) → P (entryOf s b) s b)
+      → P (x .standings % 16) (standingOf (t .groups)) (closedOf (t .groups))
+  top some P h = by (t .groups) refl
+    where
+      by : (gs : List Group) → t .groups ≡ gs → P (x .standings % 16) (standingOf gs) (closedOf gs)
+      by [] e = absurd (some (r .depth ∙ ap length e))
+      by (group s b n ∷ gs) e =
+          let digit : x .standings % 16 ≡ entryOf s b = omega (arith, r .standings, ap packed e, entry-small s b) in
+          rw digit (h s b)
 
-  pub top-closed : (x .depth ≡ 0 → ⊥) → closedIn (getD (x .standings) (x .depth - 1) 0) ≡ closedOf (t .groups)
-  top-closed h = top-entry (x .standings) (x .lines) (x .depth) h (λ e s b. closedIn e ≡ b) closed-told (t .groups) (r .depth) (r .stacked)
+  pub top-standing : (x .depth ≡ 0 → ⊥) → standingIn (x .standings % 16) ≡ standingOf (t .groups)
+  top-standing some = top some (λ e s b. standingIn e ≡ s) standing-told
+
+  pub top-closed : (x .depth ≡ 0 → ⊥) → closedIn (x .standings % 16) ≡ closedOf (t .groups)
+  top-closed some = top some (λ e s b. closedIn e ≡ b) closed-told
 
   pub pushed : (s : Standing) (n : ℕ) → x .depth < 16
-      → Represents (record { depth = x .depth + 1; count = x .count; standings = set (x .standings) (x .depth) (entryOf s false); lines = set (x .lines) (x .depth) n })
+      → Represents (record {
+        depth = x .depth + 1;
+        count = x .count;
+        standings = x .standings % 1152921504606846976 * 16 + entryOf s false;
+        lines = set (x .lines) (x .depth) n;
+      })
       (state (group s false n ∷ t .groups) (t .count))
   pushed s n h =
+      let small : packed (t .groups) < 1152921504606846976 = packed-small 15 (t .groups) (omega (arith, r .depth)) in
       record {
         depth = omega (arith, r .depth);
         shallow = omega (arith, r .depth);
         count = r .count;
-        stacked = on-top (t .groups) (x .standings) (x .lines) (x .depth) s false n (r .depth) (omega (arith, r .standings-long)) (omega (arith, r .lines-long)) (r .stacked);
-        standings-long = length-set (x .standings) (x .depth) (entryOf s false) ∙ r .standings-long;
+        standings = omega (arith, r .standings, small);
+        lined = on-top (t .groups) (x .lines) (x .depth) s false n (r .depth) (omega (arith, r .lines-long)) (r .lined);
         lines-long = length-set (x .lines) (x .depth) n ∙ r .lines-long;
       }
 
+  -- with the same lines and the same count
+  abbrev standing-as : (depth standings : ℕ) → Selection
+  standing-as d w = record { depth = d; count = x .count; standings = w; lines = x .lines }
+
   -- the innermost group changed to stand otherwise, with its `!else` met or not
   module _ (some : x .depth ≡ 0 → ⊥) (s : Standing) where
-    stands : (v : ℕ) (gs : List Group) → length gs ≡ length (t .groups) → Stacked gs (set (x .standings) (x .depth - 1) v) (x .lines)
-        → Represents (record { depth = x .depth; count = x .count; standings = set (x .standings) (x .depth - 1) v; lines = x .lines }) (state gs (t .count))
-    stands v gs e k =
+    with-digit : (w : Standing) (b c : Bool) (n : ℕ) (gs : List Group) → t .groups ≡ group w b n ∷ gs
+        → Represents (standing-as (x .depth) (x .standings / 16 * 16 + entryOf s c)) (state (group s c n ∷ gs) (t .count))
+    with-digit w b c n gs e =
+        let k : Lined (group w b n ∷ gs) (x .lines) = rw e at (r .lined) in
         record {
-          depth = r .depth ∙ sym e;
-          shallow = omega (arith, e, r .shallow);
+          depth = r .depth ∙ ap length e;
+          shallow = omega (arith, r .shallow, ap length e);
           count = r .count;
-          stacked = k;
-          standings-long = length-set (x .standings) (x .depth - 1) v ∙ r .standings-long;
+          standings = omega (arith, r .standings, ap packed e, entry-small w b);
+          lined = k;
           lines-long = r .lines-long;
         }
 
-    pub turned : Represents (record { depth = x .depth; count = x .count; standings = set (x .standings) (x .depth - 1) (entryOf s (closedOf (t .groups))); lines = x .lines })
+    pub turned : Represents (standing-as (x .depth) (x .standings / 16 * 16 + entryOf s (closedOf (t .groups))))
         (state (turnTo s (t .groups)) (t .count))
     turned = by (t .groups) refl
       where
         by : (gs : List Group) → t .groups ≡ gs
-            → Represents (record { depth = x .depth; count = x .count; standings = set (x .standings) (x .depth - 1) (entryOf s (closedOf gs)); lines = x .lines }) (state (turnTo s gs) (t .count))
+            → Represents (standing-as (x .depth) (x .standings / 16 * 16 + entryOf s (closedOf gs))) (state (turnTo s gs) (t .count))
         by [] e = absurd (some (r .depth ∙ ap length e))
-        by (group w b n ∷ gs) e =
-            stands (entryOf s b) (group s b n ∷ gs) (sym (ap length e))
-            (changed w b n gs (x .standings) (x .lines) (x .depth - 1) s b (omega (arith, r .depth, ap length e)) (omega (arith, r .standings-long, r .depth, r .shallow, ap length e)) (rw e at (r .stacked)))
+        by (group w b n ∷ gs) e = with-digit w b b n gs e
 
-    pub finished : Represents (record { depth = x .depth; count = x .count; standings = set (x .standings) (x .depth - 1) (entryOf s true); lines = x .lines })
+    pub finished : Represents (standing-as (x .depth) (x .standings / 16 * 16 + entryOf s true))
         (state (finalTo s (t .groups)) (t .count))
     finished = by (t .groups) refl
       where
         by : (gs : List Group) → t .groups ≡ gs
-            → Represents (record { depth = x .depth; count = x .count; standings = set (x .standings) (x .depth - 1) (entryOf s true); lines = x .lines }) (state (finalTo s gs) (t .count))
+            → Represents (standing-as (x .depth) (x .standings / 16 * 16 + entryOf s true)) (state (finalTo s gs) (t .count))
         by [] e = absurd (some (r .depth ∙ ap length e))
-        by (group w b n ∷ gs) e =
-            stands (entryOf s true) (group s true n ∷ gs) (sym (ap length e))
-            (changed w b n gs (x .standings) (x .lines) (x .depth - 1) s true (omega (arith, r .depth, ap length e)) (omega (arith, r .standings-long, r .depth, r .shallow, ap length e)) (rw e at (r .stacked)))
+        by (group w b n ∷ gs) e = with-digit w b true n gs e
 
-  pub popped : (x .depth ≡ 0 → ⊥) → Represents (record { depth = x .depth - 1; count = x .count; standings = x .standings; lines = x .lines }) (state (closeOne (t .groups)) (t .count))
+  pub popped : (x .depth ≡ 0 → ⊥)
+      → Represents (standing-as (x .depth - 1) (x .standings / 16)) (state (closeOne (t .groups)) (t .count))
   popped some = by (t .groups) refl
     where
-      by : (gs : List Group) → t .groups ≡ gs → Represents (record { depth = x .depth - 1; count = x .count; standings = x .standings; lines = x .lines }) (state (closeOne gs) (t .count))
+      by : (gs : List Group) → t .groups ≡ gs
+          → Represents (standing-as (x .depth - 1) (x .standings / 16)) (state (closeOne gs) (t .count))
       by [] e = absurd (some (r .depth ∙ ap length e))
       by (group w b n ∷ gs) e =
+          let k : Lined (group w b n ∷ gs) (x .lines) = rw e at (r .lined) in
           record {
             depth = omega (arith, r .depth, ap length e);
             shallow = omega (arith, r .shallow, ap length e);
             count = r .count;
-            stacked = (rw e at (r .stacked)) .2;
-            standings-long = r .standings-long;
+            standings = omega (arith, r .standings, ap packed e, entry-small w b);
+            lined = k .1;
             lines-long = r .lines-long;
           }
 

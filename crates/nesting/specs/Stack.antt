@@ -1,6 +1,6 @@
--- How the code holds the open groups: two arrays of 16 entries, the outermost group first. Contracts between layers cite this; no promise
--- about a selection does.
-use Prim.Native.Nat.{ℕ, _+_, _%_, _≤_}
+-- How the code holds the open groups: how they stand as the digits of a number, the innermost group's the lowest, and their lines in an
+-- array of 16 entries, the outermost group first. Contracts between layers cite this; no promise about a selection does.
+use Prim.Native.Nat.{ℕ, _+_, _*_, _%_, _≤_}
 use mathlib.Core.Path.{_≡_}
 use mathlib.Core.Bool.{Bool, true, false}
 use mathlib.Core.List.{List, [], _∷_}
@@ -38,18 +38,23 @@ standingIn e =
 abbrev pub closedIn : ℕ → Bool
 closedIn e = leb 8 e
 
--- every open group has its entries
-abbrev pub Stacked : List Group → (standings lines : List ℕ) → Type 0
-Stacked [] ss ls = Unit
-Stacked (group s b n ∷ gs) ss ls = (getD ss (length gs) 0 ≡ entryOf s b) × (getD ls (length gs) 0 ≡ n) × Stacked gs ss ls
+-- the digits of the open groups in base 16
+abbrev pub packed : List Group → ℕ
+packed [] = 0
+packed (group s b n ∷ gs) = packed gs * 16 + entryOf s b
+
+-- every open group has its line
+abbrev pub Lined : List Group → (lines : List ℕ) → Type 0
+Lined [] ls = Unit
+Lined (group s b n ∷ gs) ls = (getD ls (length gs) 0 ≡ n) × Lined gs ls
 
 -- the code's selection is this state
 pub record Represents (x : Selection) (s : State) : Type 0 where
   pub depth : x .depth ≡ length (s .groups)
   pub shallow : length (s .groups) ≤ MOST-GROUPS
   pub count : x .count ≡ s .count
-  pub stacked : Stacked (s .groups) (x .standings) (x .lines)
-  pub standings-long : length (x .standings) ≡ 16
+  pub standings : x .standings ≡ packed (s .groups)
+  pub lined : Lined (s .groups) (x .lines)
   pub lines-long : length (x .lines) ≡ 16
 
 -- the code's step from a selection x is this outcome; a refusal leaves the selection

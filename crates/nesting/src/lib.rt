@@ -2,12 +2,14 @@
 pub mod decide;
 pub mod stack;
 
-// A running selection: how many groups are open, the operators applied so far, and of each open group, the outermost first, how it stands
-// and the line of its `!if`. Entries from `depth` on mean nothing.
+// A running selection: how many groups are open, the operators applied so far, and of each open group how it stands and the line of its
+// `!if`. How they stand are the digits of one number in base 16, the innermost group's the lowest: a selection is copied at each step, and
+// a number is copied and changed in a register where an array would go through memory. Of the lines, the outermost group's is the first,
+// and those from `depth` on mean nothing.
 pub struct Selection {
     pub depth: usize,
     pub count: usize,
-    pub standings: [u8; 16],
+    pub standings: u64,
     pub lines: [u16; 16],
 }
 

@@ -1,4 +1,4 @@
-// The open groups in the arrays of a selection.
+// The open groups of a selection.
 use crate::Selection;
 use crate::Step;
 use ruling::Ruling;
@@ -9,10 +9,10 @@ ghost use mathlib.Core.Bool.{false};
 ghost use mathlib.Core.List.{_∷_};
 ghost use Prim.Native.Nat.{_≤_, _<_};
 ghost use Rattle.nesting.specs.Groups.{group, standingOf, closedOf};
-ghost use Rattle.nesting.specs.Decide.{State, state, Outcome, go, stop, turnTo, finalTo, closeOne, applied};
-ghost use Rattle.nesting.specs.Stack.{standingNumber, entryOf, standingIn, closedIn, Represents, Meets};
+ghost use Rattle.nesting.specs.Decide.{State, state, go, stop, turnTo, finalTo, closeOne, applied};
+ghost use Rattle.nesting.specs.Stack.{standingNumber, entryOf, standingIn, Represents, Meets};
 
-fn number_of(s: Standing) -> u8
+fn number_of(s: Standing) -> u64
     ensures { λ r. ⌜ r ≡ standingNumber s ⌝ }
     ensures { λ r. ⌜ r < 5 ⌝ }
 {
@@ -25,14 +25,15 @@ fn number_of(s: Standing) -> u8
     }
 }
 
-fn entry(s: Standing, closed: bool) -> u8
+fn entry(s: Standing, closed: bool) -> u64
     ensures { λ r. ⌜ r ≡ entryOf s closed ⌝ }
+    ensures { λ r. ⌜ r < 16 ⌝ }
 {
     let n = number_of(s);
     if closed { n + 8 } else { n }
 }
 
-fn standing_in(entry: u8) -> Standing
+fn standing_in(entry: u64) -> Standing
     ensures { λ r. ⌜ r ≡ standingIn entry ⌝ }
 {
     let n = entry % 8;
@@ -54,7 +55,7 @@ pub fn standing(x: Selection) -> Standing
     if n == 0 {
         return Standing::Outside;
     }
-    standing_in(x.standings[n - 1])
+    standing_in(x.standings % 16)
 }
 
 // Whether its `!else` was met.
@@ -66,8 +67,11 @@ pub fn is_closed(x: Selection) -> bool
     if n == 0 {
         return false;
     }
-    8 <= x.standings[n - 1]
+    8 <= x.standings % 16
 }
+
+// 16^15: what 15 open groups have as their digits is below it.
+const BELOW_TOP: u64 = 1152921504606846976;
 
 // A group opened in a line.
 pub fn push(x: Selection, s: Standing, line: LineNumber) -> Selection
@@ -76,7 +80,7 @@ pub fn push(x: Selection, s: Standing, line: LineNumber) -> Selection
 {
     let n = x.depth;
     let mut y = x;
-    y.standings[n] = entry(s, false);
+    y.standings = x.standings % BELOW_TOP * 16 + entry(s, false);
     y.lines[n] = line.0 as u16;
     y.depth = n + 1;
     y
@@ -92,7 +96,7 @@ fn turn(x: Selection, s: Standing) -> Selection
     }
     let closed = is_closed(x);
     let mut y = x;
-    y.standings[n - 1] = entry(s, closed);
+    y.standings = x.standings / 16 * 16 + entry(s, closed);
     y
 }
 
@@ -105,7 +109,7 @@ fn close_with(x: Selection, s: Standing) -> Selection
         return x;
     }
     let mut y = x;
-    y.standings[n - 1] = entry(s, true);
+    y.standings = x.standings / 16 * 16 + entry(s, true);
     y
 }
 
@@ -118,6 +122,7 @@ fn pop(x: Selection) -> Selection
     }
     let mut y = x;
     y.depth = n - 1;
+    y.standings = x.standings / 16;
     y
 }
 

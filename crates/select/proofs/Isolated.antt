@@ -1,14 +1,13 @@
 -- Isolation of a selection: lines that agree are heard the same, and two runs that hear the same go the same way. Assumes nothing.
-use Prim.Native.Nat.{ℕ, _+_, _≤_, _<_}
+use Prim.Native.Nat.{ℕ, _+_, _≤_}
 use native.Mathlib.Omega.{arith}
 use mathlib.Core.Path.{_≡_, refl, sym, ap, _∙_}
-use mathlib.Core.Logic.{_↔_}
 use mathlib.Core.Bool.{Bool, true, false}
 use mathlib.Core.List.{List, [], _++_}
 use lib.ListN.{length, getD, take, drop}
 use lib.Seq.{take-at}
 use lib.Dec.{ltb}
-use borrow.Author.Tests.{ltb-true, ltb-false}
+use borrow.Author.Tests.{ltb-false}
 use Rattle.text.specs.Bytes.{pick}
 use Rattle.text.proofs.Laws.{pick-case}
 use Rattle.settings.specs.Table.{wellFormed}
@@ -21,10 +20,10 @@ use Rattle.ruling.specs.Standings.{reads}
 use Rattle.nesting.specs.Decide.{State}
 use Rattle.nesting.proofs.Decided.{Marked, Unmarked, read-marked, unread-marked}
 use Rattle.select.specs.Step.{heard, step}
-use Rattle.select.specs.Select.{Result, accepted, refused, run, start, selection, answerOf, Selects}
+use Rattle.select.specs.Select.{Result, accepted, refused, run, start, selection, linesOf, Selects}
 use Rattle.select.specs.declared.Answer.{Answer}
-use Rattle.select.specs.declared.Answer.the-variants.{Accepted, Refused}
-use Rattle.select.specs.Isolation.{MarksTell, Read, Agrees, Comparable, Isolation, TwoCalls}
+use Rattle.select.specs.declared.Answer.the-variants.{Accepted}
+use Rattle.select.specs.Isolation.{MarksTell, Agrees, Isolation, TwoCalls}
 use Rattle.select.proofs.Alike.{Like, AllLike, never, same-run}
 use Rattle.select.proofs.Before.{runs}
 
@@ -56,7 +55,8 @@ accepted-runs f t room ms c h =
 pub isolation : Isolation
 isolation f₁ t₁ room₁ ms c h f₂ t₂ room₂ k =
     let p = accepted-runs f₁ t₁ room₁ ms c h in
-    let like : AllLike t₁ t₂ ms (lines f₁) (lines f₂) = λ i l. agree-like t₁ t₂ (getD ms i 0) (getD (lines f₁) i []) (getD (lines f₂) i []) (k .short i (omega (arith, k .as-many))) (k .agrees i l) in
+    let like : AllLike t₁ t₂ ms (lines f₁) (lines f₂) = λ i l.
+    agree-like t₁ t₂ (getD ms i 0) (getD (lines f₁) i []) (getD (lines f₂) i []) (k .short i (omega (arith, k .as-many))) (k .agrees i l) in
     runs f₂ t₂ room₂ (k .sound) (k .small) (omega (arith, p .1, k .as-many)) (k .enough)
     ∙ same-run t₁ t₂ 1 start (lines f₁) (lines f₂) ms c (k .as-many) like (p .0)
 
@@ -82,15 +82,15 @@ marks-tell t n s l m s′ e = (λ h. rw e at (read-above t n s l h), by (reads (
     by false q h = let z : m ≤ 2 = rw e at (unread-below t n s l q) in absurd (omega arith)
 
 -- an accepted answer, and the marks that its call left
-accepted-call : (f t marks : List ℕ) (r : Answer) (left : List ℕ) → Selects f t marks r left → (n c : ℕ) → r ≡ Accepted n c
+accepted-call : (f t marks : List ℕ) (r : Answer) (left : List ℕ) → Selects f t marks r left → (n c : ℕ) → r ≡ Accepted (record { 0 = n }) c
     → (selection f t (length marks) ≡ accepted (take n left) c) × (length (take n left) ≡ n)
 accepted-call f t marks r left h n c e = by (selection f t (length marks)) refl
   where
     by : (w : Result) → selection f t (length marks) ≡ w → (selection f t (length marks) ≡ accepted (take n left) c) × (length (take n left) ≡ n)
     by (refused k j) q = let z : _≡_ {A = ℕ} 0 1 = cc (h .answer) in absurd (omega arith)
     by (accepted ms d) q =
-        let a : Accepted n c ≡ Accepted (length ms) d = sym e ∙ h .answer ∙ rw q in
-        let i : length ms ≡ n = cc in
+        let a : Accepted (record { 0 = n }) c ≡ Accepted (record { 0 = length ms }) d = sym e ∙ h .answer ∙ rw q in
+        let i : length ms ≡ n = ap linesOf (sym a) in
         let j : c ≡ d = cc in
         let m : left ≡ ms ++ drop (length ms) marks = h .marks-are ∙ rw q in
         let k : take n left ≡ ms = ap (take n) m ∙ take-at ms (drop (length ms) marks) n i in

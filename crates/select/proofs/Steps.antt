@@ -3,8 +3,8 @@
 use Prim.Native.Nat.{ℕ, _+_, _≤_, _<_}
 use native.Mathlib.Omega.{arith}
 use native.Mathlib.Nat.{add-zero}
-use mathlib.Core.Path.{_≡_, refl, sym, ap, _∙_}
-use mathlib.Core.Bool.{true, false, false≢true}
+use mathlib.Core.Path.{_≡_, sym, _∙_}
+use mathlib.Core.Bool.{Bool, true, false, false≢true}
 use mathlib.Core.List.{List}
 use lib.ListN.{length}
 use lib.Dec.{ltb}
@@ -13,12 +13,17 @@ use Rattle.units.specs.Refusals.{LINE-LONG}
 use Rattle.text.proofs.Laws.{pick-case}
 use Rattle.settings.specs.Table.{wellFormed}
 use Rattle.line.specs.Directives.{directiveOf, textOf}
+use Rattle.line.specs.declared.Directive.{Directive}
+use Rattle.line.specs.declared.Directive.the-variants.{Plain}
 use Rattle.condition.specs.Conditions.{says, countOf}
 use Rattle.condition.specs.declared.Condition.{Condition}
 use Rattle.condition.specs.declared.Condition.the-variants.{Fails}
 use Rattle.condition.proofs.Counts.{count-small}
-use Rattle.nesting.specs.Groups.{Group, standingOf}
-use Rattle.ruling.specs.Standings.{reads}
+use Rattle.nesting.specs.Groups.{standingOf}
+use Rattle.text.specs.Bytes.{pick}
+use Rattle.ruling.specs.Standings.{reads, live}
+use Rattle.ruling.specs.declared.Standing.{Standing}
+use Rattle.ruling.specs.Rules.{KEPT, DROPPED}
 use Rattle.nesting.specs.Decide.{State, Outcome, go, stop, decided}
 use Rattle.nesting.specs.Stack.{Meets}
 use Rattle.nesting.specs.declared.Selection.{Selection}
@@ -26,7 +31,17 @@ use Rattle.nesting.specs.declared.Step.{Step}
 use Rattle.nesting.proofs.Decided.{Counts, decided-counts}
 use Rattle.select.specs.Step.{heard, step}
 
+-- a directive that is read is not plain
+pub other-read : (d : Directive) (v : Standing) → reads d v ≡ true → d ≡ Plain → ⊥
+unfolding reads
+other-read d v h e = let k : false ≡ true = rw e at h in false≢true k
+
 module _ (t : List ℕ) (n : ℕ) (s : State) (l : List ℕ) where
+  -- whether a line is read, by what the code knows of its head and of the innermost group
+  pub read-as : (d : Directive) (v : Standing) (b : Bool) → d ≡ directiveOf l → v ≡ standingOf (s .groups) → reads d v ≡ b
+      → reads (directiveOf l) (standingOf (s .groups)) ≡ b
+  read-as d v b e k h = rw (← e, ← k) h
+
   pub long-step : 1024 < length l → step t n s l ≡ stop LINE-LONG
   unfolding step
   long-step h = rw (lt-ltb 1024 (length l) h)
@@ -35,9 +50,15 @@ module _ (t : List ℕ) (n : ℕ) (s : State) (l : List ℕ) where
   unfolding step
   decided-step h = rw (le-ltb 1024 (length l) h)
 
-  pub unread-step : length l ≤ 1024 → reads (directiveOf l) (standingOf (s .groups)) ≡ false → step t n s l ≡ decided (directiveOf l) (Fails 0) n (s .count) (s .groups)
+  pub unread-step : length l ≤ 1024 → reads (directiveOf l) (standingOf (s .groups)) ≡ false
+      → step t n s l ≡ decided (directiveOf l) (Fails 0) n (s .count) (s .groups)
   unfolding heard
   unread-step h r = decided-step h ∙ rw (r, add-zero (s .count))
+
+  -- a plain line leaves the state
+  pub plain-step : length l ≤ 1024 → directiveOf l ≡ Plain → step t n s l ≡ go (pick (live (standingOf (s .groups))) KEPT DROPPED) s
+  unfolding decided reads
+  plain-step h e = unread-step h (rw e) ∙ rw e
 
   pub read-step : length l ≤ 1024 → reads (directiveOf l) (standingOf (s .groups)) ≡ true
       → step t n s l ≡ decided (directiveOf l) (says t (directiveOf l) (textOf l)) n (s .count + countOf (says t (directiveOf l) (textOf l))) (s .groups)
@@ -48,7 +69,8 @@ module _ (t : List ℕ) (n : ℕ) (s : State) (l : List ℕ) where
     heard-small : countOf (heard t (s .groups) l) < 200
     unfolding heard
     heard-small =
-        pick-case (λ (c : Condition). countOf c < 200) (reads (directiveOf l) (standingOf (s .groups))) (λ _. count-small t (directiveOf l) (textOf l) sound) (λ _. omega arith)
+        pick-case (λ (c : Condition). countOf c < 200) (reads (directiveOf l) (standingOf (s .groups)))
+        (λ _. count-small t (directiveOf l) (textOf l) sound) (λ _. omega arith)
 
     -- a step's count, if it has one
     Small : Outcome → Type 0
@@ -63,8 +85,10 @@ module _ (t : List ℕ) (n : ℕ) (s : State) (l : List ℕ) where
     step-is-small : Small (step t n s l)
     unfolding step Small
     step-is-small =
+        let c = heard t (s .groups) l in
+        let k = s .count + countOf c in
         pick-case Small (ltb 1024 (length l)) (λ _. tt)
-        (λ _. counts-small (decided (directiveOf l) (heard t (s .groups) l) n (s .count + countOf (heard t (s .groups) l)) (s .groups)) (decided-counts (directiveOf l) (heard t (s .groups) l) n (s .count + countOf (heard t (s .groups) l)) (s .groups)))
+        (λ _. counts-small (decided (directiveOf l) c n k (s .groups)) (decided-counts (directiveOf l) c n k (s .groups)))
 
     pub step-small : (m : ℕ) (s′ : State) → step t n s l ≡ go m s′ → s′ .count < s .count + 200
     unfolding Small

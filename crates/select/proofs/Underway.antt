@@ -1,25 +1,29 @@
 -- A run underway: the marks of the lines so far stand in front of what comes of the other lines, from the state that was reached. A turn
 -- of the loop takes one line off. Assumes nothing.
-use Prim.Native.Nat.{ℕ, suc, _+_, _-_, _*_, _≤_, _<_}
+use Prim.Native.Nat.{ℕ, _+_, _-_, _*_, _^_, _≤_, _<_}
 use native.Mathlib.Omega.{arith}
 use native.Mathlib.Numerals.{add-one}
 use mathlib.Core.Path.{_≡_, refl, sym, ap, _∙_}
-use mathlib.Core.Bool.{Bool, true, false, false≢true}
+use mathlib.Core.Bool.{true, false, false≢true}
 use mathlib.Core.List.{List, [], _∷_, _++_, append-assoc}
-use lib.ListN.{length, getD, drop, set, length-append, drop-of-length-le}
-use lib.Seq.{drop-cons, set-at}
+use lib.ListN.{length, getD, take, drop, set, length-append, length-drop, drop-of-length-le}
+use lib.Seq.{drop-cons, set-at, length-take-le}
+use Rattle.settings.specs.Table.{wellFormed}
 use Rattle.line.specs.Lines.{lines}
-use Rattle.condition.specs.Conditions.{countOf}
+use Rattle.line.specs.Directives.{directiveOf}
+use Rattle.line.specs.Cutting.{Cuts}
+use Rattle.line.specs.declared.cut.Cut.{Cut}
+use Rattle.line.specs.declared.Directive.the-variants.{Plain}
 use Rattle.nesting.specs.Groups.{Group, group}
 use Rattle.nesting.specs.Decide.{State, Outcome, go, stop}
 use Rattle.nesting.specs.Stack.{Represents, Meets}
 use Rattle.nesting.specs.declared.Selection.{Selection}
 use Rattle.nesting.specs.declared.Step.{Step}
 use Rattle.select.specs.Step.{step}
-use Rattle.select.specs.Select.{Result, accepted, refused, prepend, atEnd, after, run, start, answerOf}
-use Rattle.select.specs.Running.{ends, prepended, Runs}
+use Rattle.select.specs.Select.{Result, accepted, refused, prepend, atEnd, after, run, start}
+use Rattle.select.specs.Running.{ends, prepended, Runs, MarksPlain}
 use Rattle.select.specs.declared.Answer.{Answer}
-use Rattle.select.specs.declared.Answer.the-variants.{Accepted, Refused}
+use Rattle.select.proofs.Steps.{step-small, plain-step}
 
 prepended-accepted : (ms : List ℕ) (c : ℕ) → prepended ms (accepted [] c) ≡ accepted ms c
 unfolding prepended
@@ -61,46 +65,75 @@ begun f t marks x r =
       counted = omega arith;
     }
 
-module _ (f t marks₀ : List ℕ) (x : Selection) (at n : ℕ) (marks : List ℕ) (u : Underway f t marks₀ x at n marks) where
-  -- the next line, and where the one after it starts: its number is one of the file's
-  pub inside : (l : List ℕ) (next : ℕ) → lines (drop at f) ≡ l ∷ lines (drop next f) → n < length (lines f)
-  inside l next cut = omega (arith, u .left, ap length cut)
+module _ {f t marks₀ : List ℕ} {x : Selection} {at n : ℕ} {marks : List ℕ} (u : Underway f t marks₀ x at n marks) where
+  pub as-many-lines : n ≤ length (lines f)
+  as-many-lines = omega (arith, u .left)
 
-  module _ (l : List ℕ) (next : ℕ) (cut : lines (drop at f) ≡ l ∷ lines (drop next f)) (z : Step) (meets : Meets x z (step t (n + 1) (u .reached) l)) where
-    one-more : run t (n + 1) (u .reached) (lines (drop at f)) ≡ after (step t (n + 1) (u .reached) l) (n + 1) (λ s. run t (n + 1 + 1) s (lines (drop next f)))
+  pub few-counted : length (lines f) ≤ 4096 → x .count < 2 ^ 63
+  few-counted h = omega (arith, u .left, u .counted, u .represents .count)
+
+  -- the next line is cut off
+  module _ {r : Cut} (cut : Cuts f at r) where
+    -- its number is one of the file's
+    pub inside : n < length (lines f)
+    inside = omega (arith, u .left, ap length (cut .first))
+
+    abbrev line : List ℕ
+    line = take (r .end .0 - at) (drop at f)
+
+    abbrev others : List (List ℕ)
+    others = lines (drop (r .after .0) f)
+
+    one-more : run t (n + 1) (u .reached) (lines (drop at f)) ≡ after (step t (n + 1) (u .reached) line) (n + 1) (λ s. run t (n + 1 + 1) s others)
     unfolding run
-    one-more = rw cut
+    one-more = rw (cut .first)
 
-    pub stops : z .ok ≡ false → run t 1 start (lines f) ≡ refused (z .number) (n + 1)
-    stops h = u .goes ∙ ap (prepended (u .done)) one-more ∙ by (step t (n + 1) (u .reached) l) meets
-      where
-        by : (o : Outcome) → Meets x z o → prepended (u .done) (after o (n + 1) (λ s. run t (n + 1 + 1) s (lines (drop next f)))) ≡ refused (z .number) (n + 1)
-        by (go m s) k = absurd (false≢true (sym h ∙ k .0))
-        by (stop r) k = prepended-refused (u .done) r (n + 1) ∙ ap (λ i. refused i (n + 1)) (sym (k .1))
-
-    -- what is counted in a line, and the room for its mark
-    module _ (small : (m : ℕ) (s : State) → step t (n + 1) (u .reached) l ≡ go m s → s .count < u .reached .count + 200) (room : n < length marks₀) where
-      stored-one : set marks n (z .mark) ≡ (u .done ++ z .mark ∷ []) ++ drop (n + 1) marks₀
-      stored-one =
-          let d : drop n marks₀ ≡ getD marks₀ n 0 ∷ drop (n + 1) marks₀ = rw add-one (drop-cons marks₀ n 0 room) in
-          rw (u .stored, d) (set-at (u .done) (getD marks₀ n 0) (drop (n + 1) marks₀) (z .mark) n (u .as-many) ∙ sym (append-assoc (u .done) (z .mark ∷ []) (drop (n + 1) marks₀)))
-
-      pub goes-on : z .ok ≡ true → Underway f t marks₀ (z .next) next (n + 1) (set marks n (z .mark))
-      goes-on h = by (step t (n + 1) (u .reached) l) refl meets
+    -- what its step comes to
+    module _ (z : Step) (meets : Meets x z (step t (n + 1) (u .reached) line)) where
+      pub stops : z .ok ≡ false → run t 1 start (lines f) ≡ refused (z .number) (n + 1)
+      stops h = u .goes ∙ ap (prepended (u .done)) one-more ∙ by (step t (n + 1) (u .reached) line) meets
         where
-          by : (o : Outcome) → step t (n + 1) (u .reached) l ≡ o → Meets x z o → Underway f t marks₀ (z .next) next (n + 1) (set marks n (z .mark))
-          by (stop r) e k = absurd (false≢true (sym (k .0) ∙ h))
-          by (go m s) e k =
-              record {
-                reached = s;
-                done = u .done ++ z .mark ∷ [];
-                represents = k .2;
-                as-many = length-append (u .done) (z .mark ∷ []) ∙ ap (λ i. i + 1) (u .as-many);
-                left = omega (arith, u .left, ap length cut);
-                goes = u .goes ∙ ap (prepended (u .done)) (one-more ∙ rw (e, k .1)) ∙ prepended-one (u .done) (z .mark) (run t (n + 1 + 1) s (lines (drop next f)));
-                stored = stored-one;
-                counted = omega (arith, small m s e, u .counted);
-              }
+          by : (o : Outcome) → Meets x z o → prepended (u .done) (after o (n + 1) (λ s. run t (n + 1 + 1) s others)) ≡ refused (z .number) (n + 1)
+          by (go m s) k = absurd (false≢true (sym h ∙ k .0))
+          by (stop e) k = prepended-refused (u .done) e (n + 1) ∙ ap (λ i. refused i (n + 1)) (sym (k .1))
+
+      module _ (sound : wellFormed t ≡ true) (room : length (lines f) ≤ length marks₀) where
+        stored-one : set marks n (z .mark) ≡ (u .done ++ z .mark ∷ []) ++ drop (n + 1) marks₀
+        stored-one =
+            let d : drop n marks₀ ≡ getD marks₀ n 0 ∷ drop (n + 1) marks₀ = rw add-one (drop-cons marks₀ n 0 (omega (arith, inside, room))) in
+            rw (u .stored, d)
+            (set-at (u .done) (getD marks₀ n 0) (drop (n + 1) marks₀) (z .mark) n (u .as-many)
+            ∙ sym (append-assoc (u .done) (z .mark ∷ []) (drop (n + 1) marks₀)))
+
+        pub goes-on : z .ok ≡ true → Underway f t marks₀ (z .next) (r .after .0) (n + 1) (set marks n (z .mark))
+        goes-on h = by (step t (n + 1) (u .reached) line) refl meets
+          where
+            by : (o : Outcome) → step t (n + 1) (u .reached) line ≡ o → Meets x z o
+                → Underway f t marks₀ (z .next) (r .after .0) (n + 1) (set marks n (z .mark))
+            by (stop e) q k = absurd (false≢true (sym (k .0) ∙ h))
+            by (go m s) q k =
+                record {
+                  reached = s;
+                  done = u .done ++ z .mark ∷ [];
+                  represents = k .2;
+                  as-many = length-append (u .done) (z .mark ∷ []) ∙ ap (λ i. i + 1) (u .as-many);
+                  left = omega (arith, u .left, ap length (cut .first));
+                  goes =
+                      u .goes ∙ ap (prepended (u .done)) (one-more ∙ rw (q, k .1))
+                      ∙ prepended-one (u .done) (z .mark) (run t (n + 1 + 1) s others);
+                  stored = stored-one;
+                  counted = omega (arith, step-small t (n + 1) (u .reached) line sound m s q, u .counted);
+                }
+
+    -- a plain line that is not too long needs no step: it leaves the selection, and its mark is that of plain lines there
+    pub passes-plain : (mark : ℕ) → MarksPlain x mark → r .end .0 - at ≤ 1024 → directiveOf line ≡ Plain → wellFormed t ≡ true
+        → length (lines f) ≤ length marks₀ → Underway f t marks₀ x (r .after .0) (n + 1) (set marks n mark)
+    passes-plain mark kept short plain sound room =
+        let within : r .end .0 - at ≤ length (drop at f) = omega (arith, length-drop at f, cut .within) in
+        let few : length line ≤ 1024 = omega (arith, length-take-le (r .end .0 - at) (drop at f) within, short) in
+        goes-on (record { next = x; ok = true; number = 0; mark = mark })
+        (rw (plain-step t (n + 1) (u .reached) line few plain) (refl, kept (u .reached) (u .represents), u .represents, refl))
+        sound room refl
 
   -- no line is left
   module _ (over : length f ≤ at) where

@@ -1,14 +1,15 @@
 -- The whole selection from its parts: a refusal before any line, an accepted run, a refused run. Assumes nothing.
 use Prim.Native.Nat.{ℕ}
 use native.Mathlib.Omega.{arith}
-use mathlib.Core.Path.{_≡_, refl, sym, ap, _∙_}
+use mathlib.Core.Path.{_≡_, refl, _∙_}
 use mathlib.Core.List.{List}
 use lib.ListN.{length, replicate}
 use Rattle.units.specs.declared.Refusal.{Refusal}
 use Rattle.line.specs.Lines.{lines}
-use Rattle.select.specs.Select.{Result, accepted, refused, run, start, selection, answerOf, Selects}
+use Rattle.select.specs.Select.{Result, accepted, refused, run, start, selection, Selects}
 use Rattle.select.specs.Running.{Runs, Fit}
 use Rattle.select.specs.declared.Answer.{Answer}
+use Rattle.units.specs.declared.LineNumber.{LineNumber}
 use Rattle.select.specs.declared.Answer.the-variants.{Accepted, Refused}
 
 module _ (f t marks : List ℕ) (r : Answer) where
@@ -17,7 +18,7 @@ module _ (f t marks : List ℕ) (r : Answer) where
   refused-before k s e m h = record { answer = e ∙ rw s; marks-are = h ∙ rw s }
 
   module _ (fit : Fit f t (length marks)) (m : List ℕ) (runs : Runs f t marks r m) where
-    pub accepted-run : (a b : ℕ) → r ≡ Accepted a b → Selects f t marks r m
+    pub accepted-run : (a : LineNumber) (b : ℕ) → r ≡ Accepted a b → Selects f t marks r m
     accepted-run a b e = by (run t 1 start (lines f)) refl
       where
         by : (w : Result) → run t 1 start (lines f) ≡ w → Selects f t marks r m

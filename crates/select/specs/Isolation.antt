@@ -55,7 +55,7 @@ Isolation = (f₁ t₁ : List ℕ) (room₁ : ℕ) (ms : List ℕ) (c : ℕ) →
 -- may be more or fewer.
 abbrev pub TwoCalls : Type 0
 TwoCalls = (f₁ t₁ marks₁ : List ℕ) (r₁ : Answer) (left₁ : List ℕ) → Selects f₁ t₁ marks₁ r₁ left₁
-    → (n c : ℕ) → r₁ ≡ Accepted n c
+    → (n c : ℕ) → r₁ ≡ Accepted (record { 0 = n }) c
     → (f₂ t₂ marks₂ : List ℕ) (r₂ : Answer) (left₂ : List ℕ) → Selects f₂ t₂ marks₂ r₂ left₂
     → Comparable f₁ t₁ (take n left₁) f₂ t₂ (length marks₂)
-    → (r₂ ≡ Accepted n c) × (take n left₂ ≡ take n left₁)
+    → (r₂ ≡ Accepted (record { 0 = n }) c) × (take n left₂ ≡ take n left₁)

@@ -7,20 +7,30 @@ use lib.ListN.{length, drop}
 use Rattle.units.specs.Refusals.{FILE-UNFINISHED}
 use Rattle.settings.specs.Table.{wellFormed}
 use Rattle.line.specs.Lines.{lines}
-use Rattle.nesting.specs.Groups.{Group, group}
+use Rattle.text.specs.Bytes.{pick}
+use Rattle.ruling.specs.Standings.{live}
+use Rattle.ruling.specs.Rules.{KEPT, DROPPED}
+use Rattle.nesting.specs.Groups.{Group, group, standingOf}
+use Rattle.nesting.specs.Decide.{State}
+use Rattle.nesting.specs.Stack.{Represents}
+use Rattle.nesting.specs.declared.Selection.{Selection}
 use Rattle.select.specs.Select.{MOST-LINES, Result, accepted, refused, prepend, run, start, selection, answerOf}
 use Rattle.select.specs.declared.Answer.{Answer}
 use Rattle.select.specs.declared.Answer.the-variants.{Accepted, Refused}
 
 -- the answer after n lines, with these groups open
 abbrev pub ends : (n : ℕ) → List Group → (count : ℕ) → Answer
-ends n [] c = Accepted n c
+ends n [] c = Accepted (record { 0 = n }) c
 ends n (group s b l ∷ gs) c = Refused (record { number = FILE-UNFINISHED; line = record { 0 = l } })
 
 -- the marks of the lines so far in front of what comes of the others
 unfoldable pub prepended : List ℕ → Result → Result
 prepended [] r = r
 prepended (m ∷ ms) r = prepend m (prepended ms r)
+
+-- the mark of a plain line in the code's selection x
+abbrev pub MarksPlain : (x : Selection) → (mark : ℕ) → Type 0
+MarksPlain x mark = (s : State) → Represents x s → mark ≡ pick (live (standingOf (s .groups))) KEPT DROPPED
 
 -- what a run over all lines gives, and the marks that it leaves where it is accepted
 pub record Runs (f t marks : List ℕ) (r : Answer) (marks′ : List ℕ) : Type 0 where

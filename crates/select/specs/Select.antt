@@ -64,7 +64,7 @@ selection f t room =
 
 -- the answer: the number of lines and the count, or the refusal
 abbrev pub answerOf : Result → Answer
-answerOf (accepted ms c) = Accepted (length ms) c
+answerOf (accepted ms c) = Accepted (record { 0 = length ms }) c
 answerOf (refused k n) = Refused (record { number = k; line = record { 0 = n } })
 
 -- What document 01 says of each case. A refusal has its number and line, no lines and a count of 0; an accepted selection has no refusal
@@ -78,7 +78,7 @@ lineOf (Accepted l c) = 0
 lineOf (Refused r) = r .line .0
 
 abbrev pub linesOf : Answer → ℕ
-linesOf (Accepted l c) = l
+linesOf (Accepted l c) = l .0
 linesOf (Refused r) = 0
 
 abbrev pub countOf : Answer → ℕ

@@ -4,10 +4,11 @@ mod run;
 pub mod selection;
 pub mod step;
 
+use units::LineNumber;
 use units::Refusal;
 
 // The number of lines and the sum of the counts of operators, or the refusal.
 pub enum Answer {
-    Accepted(usize, usize),
+    Accepted(LineNumber, usize),
     Refused(Refusal),
 }

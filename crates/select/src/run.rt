@@ -2,18 +2,20 @@
 use crate::Answer;
 use crate::step;
 use line::cut;
+use line::word;
 use nesting::Selection;
 use units::LineNumber;
+use units::Offset;
 use units::Refusal;
 ghost use mathlib.Core.Path.{_≡_};
 ghost use mathlib.Core.Bool.{true};
-ghost use Prim.Native.Nat.{ℕ, _≤_, _<_};
+ghost use Prim.Native.Nat.{_≤_, _<_};
 ghost use lib.ListN.{length};
 ghost use Rattle.settings.specs.Table.{wellFormed};
 ghost use Rattle.line.specs.Lines.{lines};
 ghost use Rattle.nesting.specs.Decide.{State};
 ghost use Rattle.nesting.specs.Stack.{Represents};
-ghost use Rattle.select.specs.Select.{start as startOf, atEnd, answerOf};
+ghost use Rattle.select.specs.Select.{start as startOf};
 ghost use Rattle.select.specs.Running.{ends, Runs};
 
 // A selection before the first line.
@@ -23,7 +25,7 @@ fn fresh() -> Selection
     Selection {
         depth: 0,
         count: 0,
-        standings: [0; 16],
+        standings: 0,
         lines: [0; 16],
     }
 }
@@ -35,18 +37,17 @@ pub fn refused(number: u8, line: LineNumber) -> Answer
 }
 
 // The answer after the last of n lines: all groups are closed, or the innermost open one is at fault.
-fn finish(x: Selection, n: usize) -> Answer
+fn finish(x: Selection, n: LineNumber) -> Answer
     requires { ⌜ x .depth ≤ 16 ⌝ }
-    ensures { λ r. ⌜ ((s : State) → Represents x s → r ≡ ends n (s .groups) (s .count)) ⌝ }
+    ensures { λ r. ⌜ ((s : State) → Represents x s → r ≡ ends (n .0) (s .groups) (s .count)) ⌝ }
 {
     let depth = x.depth;
     if depth == 0 {
         return Answer::Accepted(n, x.count);
     }
-    refused(
-        units::FILE_UNFINISHED,
-        LineNumber(x.lines[depth - 1] as usize),
-    )
+    let last = depth - 1;
+    let line = x.lines[last] as usize;
+    refused(units::FILE_UNFINISHED, LineNumber(line))
 }
 
 // Marks the lines of a file one after the other, up to the first that is refused.
@@ -55,23 +56,35 @@ pub fn run<'a>(marks: &mut [u8], file: &'a [u8], table: &'a [u8]) -> Answer
     ensures { λ r. ⌜ Runs (now (file .entry)) (now (table .entry)) (now (marks .entry)) r (now (marks .exit)) ⌝ }
 {
     let mut x = fresh();
-    let mut at: usize = 0;
-    let mut n: usize = 0;
-    while at < file.len() {
+    // the mark that plain lines have now
+    let mut mark = ruling::KEPT;
+    let mut at = Offset(0);
+    let mut n = LineNumber(0);
+    while at.0 < file.len() {
         let c = cut::next(file, at);
+        let start = at.0;
         let end = c.end;
-        let after = c.after;
         let e = end.0;
-        let z = step::step(table, LineNumber(n + 1), x, &file[at..e]);
-        let ok = z.ok;
-        if !ok {
-            return refused(z.number, LineNumber(n + 1));
+        let i = n.0;
+        let line = LineNumber(i + 1);
+        let head = word::read_head(&file[start..e]);
+        let d = head.directive;
+        if step::is_passed(d, e - start) {
+            marks[i] = mark;
+        } else {
+            let z = step::step(table, line, x, &file[start..e], head);
+            let ok = z.ok;
+            if !ok {
+                return refused(z.number, line);
+            }
+            marks[i] = z.mark;
+            let next = z.next;
+            x = next;
+            mark = step::plain_mark(x);
         }
-        marks[n] = z.mark;
-        let next = z.next;
-        x = next;
-        n += 1;
-        at = after.0;
+        n = line;
+        let after = c.after;
+        at = after;
     }
     finish(x, n)
 }

@@ -26,10 +26,10 @@ fn unfit<'a>(file: &'a [u8], table: &'a [u8], room: usize) -> u8
         return units::FILE_LONG;
     }
     let n = cut::count(file);
-    if MOST_LINES < n {
+    if MOST_LINES < n.0 {
         return units::LINES_MANY;
     }
-    if room < n {
+    if room < n.0 {
         return units::MARKS_SHORT;
     }
     0

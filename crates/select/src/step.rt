@@ -1,5 +1,7 @@
 // One line of a selection.
 use condition::Condition;
+use line::Directive;
+use line::Head;
 use line::word;
 use nesting::Selection;
 use nesting::Step;
@@ -9,11 +11,14 @@ use units::LineNumber;
 ghost use mathlib.Core.Path.{_≡_};
 ghost use mathlib.Core.Bool.{true};
 ghost use Prim.Native.Nat.{_+_, _^_, _≤_, _<_};
+ghost use Rattle.line.specs.Cutting.{ReadsHead};
+ghost use Rattle.line.specs.declared.Directive.the-variants.{Plain};
 ghost use Rattle.settings.specs.Table.{wellFormed};
 ghost use Rattle.condition.specs.Conditions.{countOf};
 ghost use Rattle.nesting.specs.Decide.{State, state};
 ghost use Rattle.nesting.specs.Stack.{Represents, Meets};
 ghost use Rattle.select.specs.Step.{step as stepOf};
+ghost use Rattle.select.specs.Running.{MarksPlain};
 
 // The most bytes of a line without its end.
 const MOST_LINE: usize = 1024;
@@ -39,19 +44,42 @@ fn counted(x: Selection, n: usize) -> Selection
     y
 }
 
-// Line n of a file, in a selection.
-pub fn step<'a>(table: &'a [u8], n: LineNumber, x: Selection, line: &'a [u8]) -> Step
-    requires { ⌜ (wellFormed (now table) ≡ true) × (n .0 < 65536) × (x .depth ≤ 16) × (x .count < 2 ^ 63) ⌝ }
+// Whether a line of this many bytes is plain and not too long: then it leaves the selection, and all that it needs is its mark.
+pub fn is_passed(d: Directive, len: usize) -> bool
+    ensures { λ r. ⌜ (r ≡ true → (len ≤ 1024) × (d ≡ Plain)) ⌝ }
+{
+    match d {
+        Directive::Plain => len <= MOST_LINE,
+        _ => false,
+    }
+}
+
+// The mark of a plain line in a selection.
+pub fn plain_mark(x: Selection) -> u8
+    requires { ⌜ x .depth ≤ 16 ⌝ }
+    ensures { λ r. ⌜ MarksPlain x r ⌝ }
+{
+    if ruling::live(stack::standing(x)) {
+        ruling::KEPT
+    } else {
+        ruling::DROPPED
+    }
+}
+
+// Line n of a file with its head, in a selection.
+pub fn step<'a>(table: &'a [u8], n: LineNumber, x: Selection, line: &'a [u8], head: Head) -> Step
+    requires { ⌜ (wellFormed (now table) ≡ true) × (n .0 < 65536) × (x .depth ≤ 16) × (x .count < 2 ^ 63) × ReadsHead (now line) head ⌝ }
     ensures { λ z. ⌜ ((s : State) → Represents x s → Meets x z (stepOf (now (table .entry)) (n .0) s (now (line .entry)))) ⌝ }
 {
     if MOST_LINE < line.len() {
         return stack::refused(units::LINE_LONG, x);
     }
-    let d = word::directive(line);
+    let d = head.directive;
     if !ruling::reads(d, stack::standing(x)) {
         return decide::unread(d, n, x);
     }
-    let c = condition::says(table, d, word::text(line));
+    let from = head.text;
+    let c = condition::says(table, d, word::text(line, from));
     let z = decide::decide(d, c, n, counted(x, count_of(c)));
     let ok = z.ok;
     if ok {

@@ -19,10 +19,14 @@ run-end-requires : tie.Need-run-end-requires
 run-end-requires c κs = search needs
 
 sub-rest : tie.Need-sub-rest
-sub-rest c = omega (arith, blanks-inside (c .before .before .before .before .before .args .text .now) (c .run-end .ensures))
+sub-rest c =
+    let start = c .before .before .before .before .before in
+    omega (arith, blanks-inside (start .args .text .now) (c .run-end .ensures))
 
 part-rest-start : tie.Need-part-rest-start
-part-rest-start c = blanks-inside (c .before .before .before .before .before .args .text .now) (c .run-end .ensures)
+part-rest-start c =
+    let start = c .before .before .before .before .before in
+    blanks-inside (start .args .text .now) (c .run-end .ensures)
 
 part-rest-end : tie.Need-part-rest-end
 part-rest-end c = search needs
@@ -35,7 +39,17 @@ named-says-requires c κs = search needs
 
 returns-2 : tie.Need-returns-2
 unfolding nameSays
-returns-2 c = c .named-says .ensures ∙ rw (c .before .name-at .ensures, past-blanks (c .before .before .before .before .before .before .before .before .args .text .now) (c .before .before .before .run-end .ensures), sym (c .before .before .before .before .before .is-spaced .ensures) ∙ not-false _ (c .before .before .before .before .if1 .left))
+returns-2 c =
+    let at-run-end = c .before .before .before in
+    let at-if1 = at-run-end .before in
+    let at-is-spaced = at-if1 .before in
+    let start = at-is-spaced .before .before .before in
+    c .named-says .ensures ∙ rw (
+      c .before .name-at .ensures,
+      past-blanks (start .args .text .now) (at-run-end .run-end .ensures),
+      sym
+          (at-is-spaced .is-spaced .ensures) ∙ not-false _ (at-if1 .if1 .left),
+    )
 
 pub name-says-spec : {M : Type 1} → statement M
 name-says-spec =

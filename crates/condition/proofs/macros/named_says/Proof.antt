@@ -16,7 +16,9 @@ is-idle-requires c κs = search needs
 
 returns-2 : tie.Need-returns-2
 unfolding namedSays
-returns-2 c = rw (lt-ltb 0 (c .before .before .before .before .before .before .before .args .n .len) (omega arith), sym (c .before .is-idle .ensures) ∙ not-true _ (c .if2 .taken))
+returns-2 c =
+    let start = c .before .before .before .before .before .before .before in
+    rw (lt-ltb 0 (start .args .n .len) (omega arith), sym (c .before .is-idle .ensures) ∙ not-true _ (c .if2 .taken))
 
 part-requires : tie.Need-part-requires
 part-requires c κs = search needs
@@ -32,8 +34,18 @@ decide-requires c κs = search needs
 
 returns-3 : tie.Need-returns-3
 unfolding namedSays
-returns-3 c = let s = c .before .before .before .before .before .before .before .before .before .before .before .before in
-    c .decide .ensures ∙ rw (lt-ltb 0 (s .args .n .len) (omega arith), sym (c .before .before .before .before .before .before .is-idle .ensures) ∙ not-false _ (c .before .before .before .before .before .if2 .left), c .before .is-missing .ensures, c .before .before .lookup .ensures .right (s .pre), c .before .before .before .part .ensures .bytes)
+returns-3 c =
+    let at-part = c .before .before .before in
+    let at-if2 = at-part .before .before in
+    let at-is-idle = at-if2 .before in
+    let s = c .before .before .before .before .before .before .before .before .before .before .before .before in
+    c .decide .ensures ∙ rw (
+      lt-ltb 0 (s .args .n .len) (omega arith),
+      sym (at-is-idle .is-idle .ensures) ∙ not-false _ (at-if2 .if2 .left),
+      c .before .is-missing .ensures,
+      c .before .before .lookup .ensures .right (s .pre),
+      at-part .part .ensures .bytes,
+    )
 
 pub named-says-spec : {M : Type 1} → statement M
 named-says-spec =

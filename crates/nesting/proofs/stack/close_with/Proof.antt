@@ -1,7 +1,8 @@
--- The entry on top is replaced.
-use Rattle.nesting.proofs.Stacks.{finished, unchanged}
+-- The innermost group's digit is replaced.
+use native.Mathlib.Omega.{arith}
 use mathlib.Core.Path.{refl}
 use Rattle.nesting.specs.Decide.{finalTo}
+use Rattle.nesting.proofs.Stacks.{finished, unchanged}
 use borrow.Author.Needs.{needs}
 use Rattle.nesting.proofs.stack.close_with.Statement.{statement}
 use Rattle.nesting.proofs.stack.close_with.Tie as tie
@@ -9,17 +10,19 @@ use Rattle.nesting.proofs.stack.close_with.Tie as tie
 returns : tie.Need-returns
 returns c = λ t r. unchanged (c .before .args .x) t r (c .if1 .taken) (finalTo (c .before .args .s)) refl
 
+mul-y : tie.Need-mul-y
+mul-y c = omega arith
+
 entry-requires : tie.Need-entry-requires
 entry-requires c κs = search needs
 
-sub-y : tie.Need-sub-y
-sub-y c = search needs
-
-element-write-y : tie.Need-element-write-y
-element-write-y c = search needs
+add-y : tie.Need-add-y
+add-y c = omega (arith, c .entry .ensures .1)
 
 returns-2 : tie.Need-returns-2
-returns-2 c = λ t r. rw (c .entry .ensures) (finished (c .before .before .args .x) t r (c .before .if1 .left) (c .before .before .args .s))
+returns-2 c = λ t r.
+    let some = c .before .before in
+    rw (c .entry .ensures .0) (finished (some .before .args .x) t r (some .if1 .left) (some .before .args .s))
 
 pub close-with-spec : {M : Type 1} → statement M
-close-with-spec = tie.close (tie.spec returns entry-requires sub-y element-write-y returns-2)
+close-with-spec = tie.close (tie.spec returns mul-y entry-requires add-y returns-2)

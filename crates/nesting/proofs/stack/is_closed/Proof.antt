@@ -1,21 +1,13 @@
--- The entry on top tells.
-use mathlib.Core.Path.{sym, _∙_}
+-- The innermost group's digit tells.
 use Rattle.nesting.proofs.Stacks.{outside-closed, top-closed}
-use borrow.Author.Needs.{needs}
 use Rattle.nesting.proofs.stack.is_closed.Statement.{statement}
 use Rattle.nesting.proofs.stack.is_closed.Tie as tie
 
 returns : tie.Need-returns
-returns c = λ t r. outside-closed (c .before .args .t1) t r (c .if1 .taken)
-
-sub-result : tie.Need-sub-result
-sub-result c = search needs
-
-element-copy-out-result : tie.Need-element-copy-out-result
-element-copy-out-result c = search needs
+returns c = λ t r. outside-closed (c .before .args .x) t r (c .if1 .taken)
 
 returns-2 : tie.Need-returns-2
-returns-2 c = λ t r. top-closed (c .before .before .args .t1) t r (c .before .if1 .left)
+returns-2 c = λ t r. top-closed (c .before .before .args .x) t r (c .before .if1 .left)
 
 pub is-closed-spec : {M : Type 1} → statement M
-is-closed-spec = tie.close (tie.spec returns sub-result element-copy-out-result returns-2)
+is-closed-spec = tie.close (tie.spec returns returns-2)

@@ -1,4 +1,4 @@
--- An entry less counts.
+-- The innermost group's digit is dropped.
 use Rattle.nesting.proofs.Stacks.{popped, unchanged}
 use mathlib.Core.Path.{refl}
 use Rattle.nesting.specs.Decide.{closeOne}
@@ -13,7 +13,7 @@ sub-y : tie.Need-sub-y
 sub-y c = search needs
 
 returns-2 : tie.Need-returns-2
-returns-2 c = λ t r. popped (c .before .args .x) t r (c .if1 .left)
+returns-2 c = λ t r. popped (c .before .before .args .x) t r (c .before .if1 .left)
 
 pub pop-spec : {M : Type 1} → statement M
 pop-spec = tie.close (tie.spec returns sub-y returns-2)

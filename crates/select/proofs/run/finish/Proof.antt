@@ -1,41 +1,41 @@
 -- The entry on top has the line of the innermost group.
-use native.Mathlib.Omega.{arith}
-use mathlib.Core.Path.{_≡_, refl, sym, ap, _∙_}
-use mathlib.Core.List.{List, [], _∷_}
+use mathlib.Core.Path.{_∙_}
 use Rattle.select.proofs.Ends.{no-group, top-line}
 use borrow.Author.Needs.{needs}
 use Rattle.select.proofs.run.finish.Statement.{statement}
 use Rattle.select.proofs.run.finish.Tie as tie
 
 returns : tie.Need-returns
-returns c = λ s r. no-group (c .before .args .t1) s r (c .before .args .n) (c .if1 .taken)
+returns c = λ s r. no-group (c .before .args .t1) s r (c .before .args .n .0) (c .if1 .taken)
 
-sub-t7 : tie.Need-sub-t7
-sub-t7 c = search needs
+sub-last : tie.Need-sub-last
+sub-last c = search needs
 
-mul-t8 : tie.Need-mul-t8
-mul-t8 c = search needs
+mul-line : tie.Need-mul-line
+mul-line c = search needs
 
-element-copy-out-t11 : tie.Need-element-copy-out-t11
-element-copy-out-t11 c = search needs
+element-copy-out-line : tie.Need-element-copy-out-line
+element-copy-out-line c = search needs
 
-cast-t12 : tie.Need-cast-t12
-cast-t12 c = search needs
+cast-line : tie.Need-cast-line
+cast-line c = search needs
 
 refused-requires : tie.Need-refused-requires
 refused-requires c κs = search needs
 
 returns-2 : tie.Need-returns-2
-returns-2 c = λ s r. c .refused .ensures ∙ top-line (c .before .before .before .args .t1) s r (c .before .before .before .args .n) (c .before .before .if1 .left)
+returns-2 c = λ s r.
+    let a = c .before .before .before .args in
+    c .refused .ensures ∙ top-line (a .t1) s r (a .n .0) (c .before .before .if1 .left)
 
 pub finish-spec : {M : Type 1} → statement M
 finish-spec =
     tie.close
     (tie.spec
     returns
-    sub-t7
-    mul-t8
-    element-copy-out-t11
-    cast-t12
+    sub-last
+    mul-line
+    element-copy-out-line
+    cast-line
     refused-requires
     returns-2)

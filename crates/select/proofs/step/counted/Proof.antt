@@ -9,7 +9,18 @@ add-y : tie.Need-add-y
 add-y c = search needs
 
 returns : tie.Need-returns
-returns c = (refl, λ s r. record { depth = r .depth; shallow = r .shallow; count = ap (λ i. i + c .before .args .n) (r .count); stacked = r .stacked; standings-long = r .standings-long; lines-long = r .lines-long })
+returns c = (
+  refl,
+  λ s r.
+      record {
+        depth = r .depth;
+        shallow = r .shallow;
+        count = ap (λ i. i + c .before .args .n) (r .count);
+        standings = r .standings;
+        lined = r .lined;
+        lines-long = r .lines-long;
+      },
+)
 
 pub counted-spec : {M : Type 1} → statement M
 counted-spec = tie.close (tie.spec add-y returns)

@@ -7,10 +7,8 @@ use borrow.Author.Tests.{not-true, not-false}
 use Rattle.condition.specs.Conditions.{says, countOf}
 use Rattle.condition.proofs.Counts.{count-small}
 use Rattle.line.specs.Directives.{directiveOf, textOf}
-use Rattle.nesting.specs.Groups.{standingOf}
-use Rattle.ruling.specs.Standings.{reads}
 use Rattle.nesting.specs.Decide.{decided}
-use Rattle.select.proofs.Steps.{long-step, unread-step, read-step, went-on, refused-back}
+use Rattle.select.proofs.Steps.{other-read, read-as, long-step, unread-step, read-step, went-on, refused-back}
 use borrow.Author.Needs.{needs}
 use Rattle.select.proofs.step.step.Statement.{statement}
 use Rattle.select.proofs.step.step.Tie as tie
@@ -19,10 +17,9 @@ refused-requires : tie.Need-refused-requires
 refused-requires c κs = search needs
 
 returns : tie.Need-returns
-returns c = λ s r. rw (long-step (c .before .before .before .before .args .table .now) (c .before .before .before .before .args .n .0) s (c .before .before .before .before .args .line .now) (c .before .if1 .taken)) (c .refused .ensures)
-
-directive-requires : tie.Need-directive-requires
-directive-requires c κs = search needs
+returns c = λ s r.
+    let a = c .before .before .before .before .args in
+    rw (long-step (a .table .now) (a .n .0) s (a .line .now) (c .before .if1 .taken)) (c .refused .ensures)
 
 standing-requires : tie.Need-standing-requires
 standing-requires c κs = search needs
@@ -35,12 +32,19 @@ unread-requires c κs = search needs
 
 returns-2 : tie.Need-returns-2
 returns-2 c = λ s r.
-    let l = c .before .before .before .before .before .before .before .before .args .line .now in
-    let q : reads (directiveOf l) (standingOf (s .groups)) ≡ false = sym (ap (λ d. reads d (standingOf (s .groups))) (c .before .before .before .before .directive .ensures)) ∙ sym (ap (reads (c .before .before .before .before .directive .result)) (c .before .before .before .standing .ensures s r)) ∙ sym (c .before .before .reads .ensures) ∙ not-true _ (c .before .if2 .taken) in
-    rw (unread-step (c .before .before .before .before .before .before .before .before .args .table .now) (c .before .before .before .before .before .before .before .before .args .n .0) s l (c .before .before .before .before .before .if1 .left) q, ← c .before .before .before .before .directive .ensures) (c .unread .ensures s r)
+    let asked = c .before .before .before in
+    let short = asked .before in
+    let start = short .before .before .before in
+    let a = start .args in
+    let head = start .pre .4 in
+    let unread = sym (c .before .before .reads .ensures) ∙ not-true _ (c .before .if2 .taken) in
+    let q = read-as (a .table .now) (a .n .0) s (a .line .now) _ _ false (head .directive) (asked .standing .ensures s r) unread in
+    rw (unread-step (a .table .now) (a .n .0) s (a .line .now) (short .if1 .left) q, ← head .directive) (c .unread .ensures s r)
 
 text-requires : tie.Need-text-requires
-text-requires c κs = search needs
+text-requires c κs =
+    let start = c .before .before .before .before .before .before .before in
+    start .pre .4 .within
 
 says-requires : tie.Need-says-requires
 says-requires c κs = search needs
@@ -49,29 +53,60 @@ count-of-requires : tie.Need-count-of-requires
 count-of-requires c κs = search needs
 
 counted-requires : tie.Need-counted-requires
-counted-requires c κs = omega (arith, c .count-of .ensures, ap countOf (c .before .says .ensures), count-small (c .before .before .before .before .before .before .before .before .before .before .args .table .now) (c .before .before .before .before .before .before .directive .result) (c .before .before .text .result .now) (c .before .before .before .before .before .before .before .before .before .before .pre .0), c .before .before .before .before .before .before .before .before .before .before .pre .3)
+counted-requires c κs =
+    let start = c .before .before .before .before .before .before .before .before .before .before in
+    let small = count-small (start .args .table .now) (start .args .head .directive) (c .before .before .text .result .now) (start .pre .0) in
+    omega (arith, c .count-of .ensures, ap countOf (c .before .says .ensures), small, start .pre .3)
 
 decide-requires : tie.Need-decide-requires
 decide-requires c κs = search needs
 
 returns-3 : tie.Need-returns-3
 returns-3 c = λ s r.
-    let l = c .before .before .before .before .before .before .before .before .before .before .before .before .before .args .line .now in
-    let q : reads (directiveOf l) (standingOf (s .groups)) ≡ true = sym (ap (λ d. reads d (standingOf (s .groups))) (c .before .before .before .before .before .before .before .before .before .directive .ensures)) ∙ sym (ap (reads (c .before .before .before .before .before .before .before .before .before .directive .result)) (c .before .before .before .before .before .before .before .before .standing .ensures s r)) ∙ sym (c .before .before .before .before .before .before .before .reads .ensures) ∙ not-false _ (c .before .before .before .before .before .before .if2 .left) in
-    let y : c .before .before .before .before .says .result ≡ says (c .before .before .before .before .before .before .before .before .before .before .before .before .before .args .table .now) (directiveOf l) (textOf l) = c .before .before .before .before .says .ensures ∙ rw (c .before .before .before .before .before .before .before .before .before .directive .ensures, c .before .before .before .before .before .text .ensures .bytes) in
+    let count = c .before .before .before in
+    let said = count .before in
+    let text = said .before in
+    let read = text .before .before in
+    let asked = read .before .before in
+    let short = asked .before in
+    let start = short .before .before .before in
+    let a = start .args in
+    let head = start .pre .4 in
+    let l = a .line .now in
+    let is-read = sym (read .before .reads .ensures) ∙ not-false _ (read .if2 .left) in
+    let q = read-as (a .table .now) (a .n .0) s l _ _ true (head .directive) (asked .standing .ensures s r) is-read in
+    let handed = text .text .ensures (head .starts (other-read _ _ q)) in
+    let y : said .says .result ≡ says (a .table .now) (directiveOf l) (textOf l) = said .says .ensures ∙ rw (head .directive, handed .bytes) in
     let m = c .before .decide .ensures _ (c .before .before .counted .ensures .1 s r) in
-    rw (read-step (c .before .before .before .before .before .before .before .before .before .before .before .before .before .args .table .now) (c .before .before .before .before .before .before .before .before .before .before .before .before .before .args .n .0) s l (c .before .before .before .before .before .before .before .before .before .before .if1 .left) q, ← y, ← c .before .before .before .count-of .ensures, ← c .before .before .before .before .before .before .before .before .before .directive .ensures) (went-on (c .before .before .before .before .before .before .before .before .before .before .before .before .before .args .x) (c .before .before .counted .result) (c .before .decide .result) (decided (c .before .before .before .before .before .before .before .before .before .directive .result) (c .before .before .before .before .says .result) (c .before .before .before .before .before .before .before .before .before .before .before .before .before .args .n .0) (s .count + c .before .before .before .count-of .result) (s .groups)) m (c .if3 .taken))
+    rw (read-step (a .table .now) (a .n .0) s l (short .if1 .left) q, ← y, ← count .count-of .ensures, ← head .directive)
+    (went-on (a .x) (c .before .before .counted .result) (c .before .decide .result)
+    (decided (a .head .directive) (said .says .result) (a .n .0) (s .count + count .count-of .result) (s .groups)) m (c .if3 .taken))
 
 refused-requires-2 : tie.Need-refused-requires-2
 refused-requires-2 c κs = search needs
 
 returns-4 : tie.Need-returns-4
 returns-4 c = λ s r.
-    let l = c .before .before .before .before .before .before .before .before .before .before .before .before .before .before .args .line .now in
-    let q : reads (directiveOf l) (standingOf (s .groups)) ≡ true = sym (ap (λ d. reads d (standingOf (s .groups))) (c .before .before .before .before .before .before .before .before .before .before .directive .ensures)) ∙ sym (ap (reads (c .before .before .before .before .before .before .before .before .before .before .directive .result)) (c .before .before .before .before .before .before .before .before .before .standing .ensures s r)) ∙ sym (c .before .before .before .before .before .before .before .before .reads .ensures) ∙ not-false _ (c .before .before .before .before .before .before .before .if2 .left) in
-    let y : c .before .before .before .before .before .says .result ≡ says (c .before .before .before .before .before .before .before .before .before .before .before .before .before .before .args .table .now) (directiveOf l) (textOf l) = c .before .before .before .before .before .says .ensures ∙ rw (c .before .before .before .before .before .before .before .before .before .before .directive .ensures, c .before .before .before .before .before .before .text .ensures .bytes) in
-    let m = c .before .before .decide .ensures _ (c .before .before .before .counted .ensures .1 s r) in
-    rw (read-step (c .before .before .before .before .before .before .before .before .before .before .before .before .before .before .args .table .now) (c .before .before .before .before .before .before .before .before .before .before .before .before .before .before .args .n .0) s l (c .before .before .before .before .before .before .before .before .before .before .before .if1 .left) q, ← y, ← c .before .before .before .before .count-of .ensures, ← c .before .before .before .before .before .before .before .before .before .before .directive .ensures) (refused-back (c .before .before .before .before .before .before .before .before .before .before .before .before .before .before .args .x) (c .before .before .before .counted .result) (c .before .before .decide .result) (c .refused2 .result) (decided (c .before .before .before .before .before .before .before .before .before .before .directive .result) (c .before .before .before .before .before .says .result) (c .before .before .before .before .before .before .before .before .before .before .before .before .before .before .args .n .0) (s .count + c .before .before .before .before .count-of .result) (s .groups)) m (c .before .if3 .left) (c .refused2 .ensures))
+    let decides = c .before .before in
+    let count = decides .before .before in
+    let said = count .before in
+    let text = said .before in
+    let read = text .before .before in
+    let asked = read .before .before in
+    let short = asked .before in
+    let start = short .before .before .before in
+    let a = start .args in
+    let head = start .pre .4 in
+    let l = a .line .now in
+    let is-read = sym (read .before .reads .ensures) ∙ not-false _ (read .if2 .left) in
+    let q = read-as (a .table .now) (a .n .0) s l _ _ true (head .directive) (asked .standing .ensures s r) is-read in
+    let handed = text .text .ensures (head .starts (other-read _ _ q)) in
+    let y : said .says .result ≡ says (a .table .now) (directiveOf l) (textOf l) = said .says .ensures ∙ rw (head .directive, handed .bytes) in
+    let m = decides .decide .ensures _ (decides .before .counted .ensures .1 s r) in
+    rw (read-step (a .table .now) (a .n .0) s l (short .if1 .left) q, ← y, ← count .count-of .ensures, ← head .directive)
+    (refused-back (a .x) (decides .before .counted .result) (decides .decide .result) (c .refused2 .result)
+    (decided (a .head .directive) (said .says .result) (a .n .0) (s .count + count .count-of .result) (s .groups)) m (c .before .if3 .left)
+    (c .refused2 .ensures))
 
 pub step-spec : {M : Type 1} → statement M
 step-spec =
@@ -79,7 +114,6 @@ step-spec =
     (tie.spec
     refused-requires
     returns
-    directive-requires
     standing-requires
     reads-requires
     unread-requires
