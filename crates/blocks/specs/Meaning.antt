@@ -31,17 +31,17 @@ fault r i then m = fault r i
 
 -- A branch: its line, its body, and the other branches after it. What the line's text says counts only where the line is read. The body is
 -- given whether this branch is taken, the other branches whether one of the group was taken so far.
-abbrev pub branch : (read : Bool) → Condition → (taken : Bool) → (body others : Bool → Meaning) → Meaning
-branch false c taken body others = single 2 0 then body false then others taken
-branch true (Holds n) taken body others = single 4 n then body true then others true
-branch true (Fails n) taken body others = single 3 n then body false then others taken
-branch true (Wrong r) taken body others = fault r 0
+abbrev pub branch : (read : Bool) → Condition → (earlier : Bool) → (body others : Bool → Meaning) → Meaning
+branch false c earlier body others = single 2 0 then body false then others earlier
+branch true (Holds n) earlier body others = single 4 n then body true then others true
+branch true (Fails n) earlier body others = single 3 n then body false then others earlier
+branch true (Wrong r) earlier body others = fault r 0
 
 -- a read `!else` takes its branch exactly if no earlier one was taken, unless its text is malformed
-abbrev pub otherwise : (taken : Bool) → Condition → Condition
-otherwise taken (Holds n) = pick taken (Fails n) (Holds n)
-otherwise taken (Fails n) = pick taken (Fails n) (Holds n)
-otherwise taken (Wrong r) = Wrong r
+abbrev pub otherwise : (earlier : Bool) → Condition → Condition
+otherwise earlier (Holds n) = pick earlier (Fails n) (Holds n)
+otherwise earlier (Fails n) = pick earlier (Fails n) (Holds n)
+otherwise earlier (Wrong r) = Wrong r
 
 -- an `!endif`
 abbrev pub closing : (read : Bool) → Condition → Meaning
@@ -58,12 +58,12 @@ unfoldable mutual
   meaning t around empty = means [] 0
   meaning t around (line l bs) = single (pick around 1 0) 0 then meaning t around bs
   meaning t around (group l body os bs) =
-      branch around (says t (directiveOf l) (textOf l)) false (λ live. meaning t live body) (λ taken. branches t around taken os)
+      branch around (says t (directiveOf l) (textOf l)) false (λ live. meaning t live body) (λ earlier. branches t around earlier os)
       then meaning t around bs
 
-  pub branches : (t : List ℕ) → (around taken : Bool) → Branches → Meaning
-  branches t around taken (endif l) = closing around (says t Endif (textOf l))
-  branches t around taken (elseif l body os) =
-      branch (around && not taken) (says t Elseif (textOf l)) taken (λ live. meaning t live body) (λ taken′. branches t around taken′ os)
-  branches t around taken (else l body e) =
-      branch around (otherwise taken (says t Else (textOf l))) taken (λ live. meaning t live body) (λ _. closing around (says t Endif (textOf e)))
+  pub branches : (t : List ℕ) → (around earlier : Bool) → Branches → Meaning
+  branches t around earlier (endif l) = closing around (says t Endif (textOf l))
+  branches t around earlier (elseif l body os) =
+      branch (around && not earlier) (says t Elseif (textOf l)) earlier (λ live. meaning t live body) (λ earlier′. branches t around earlier′ os)
+  branches t around earlier (else l body e) =
+      branch around (otherwise earlier (says t Else (textOf l))) earlier (λ live. meaning t live body) (λ _. closing around (says t Endif (textOf e)))

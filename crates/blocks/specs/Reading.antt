@@ -16,8 +16,8 @@ holds (Holds n) = true
 holds (Fails n) = false
 holds (Wrong r) = false
 
--- For each line whether it is a directive that is read, where the branch around the blocks is taken or not, and, inside a group, an earlier
--- branch of it was taken or not. A plain line is never read.
+-- For each line, whether it is a directive that is read. `around`: the branch around the blocks is taken. `earlier`: an earlier branch of the
+-- group was taken. A plain line is never read.
 unfoldable mutual
   pub readsOf : (t : List ℕ) → (around : Bool) → Blocks → List Bool
   readsOf t around empty = []

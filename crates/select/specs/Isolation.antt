@@ -11,11 +11,10 @@ use Rattle.settings.specs.Table.{wellFormed}
 use Rattle.line.specs.Lines.{lines}
 use Rattle.line.specs.Directives.{directiveOf, textOf}
 use Rattle.condition.specs.Naming.{SameRecords}
-use Rattle.ruling.specs.Rules.{NOT-TAKEN}
 use Rattle.nesting.specs.Groups.{standingOf}
 use Rattle.ruling.specs.Standings.{reads}
 use Rattle.nesting.specs.Decide.{State, go}
-use Rattle.select.specs.Step.{MOST-LINE, step}
+use Rattle.select.specs.Step.{step}
 use Rattle.select.specs.Select.{MOST-FILE, accepted, selection, Selects}
 use Rattle.select.specs.declared.Answer.{Answer}
 use Rattle.select.specs.declared.Answer.the-variants.{Accepted}
@@ -23,11 +22,12 @@ use Rattle.select.specs.declared.Answer.the-variants.{Accepted}
 -- A directive that is read has mark 3, 4 or 5, and any other line a mark below. Which directives are read is said by the structure of the
 -- file in blocks/specs/Reading.antt; that the marks show just these is `MarksTellReading` in blocks/specs/Decides.antt.
 abbrev pub Read : (mark : ℕ) → Type 0
-Read m = NOT-TAKEN ≤ m
+Read m = 3 ≤ m
 
 -- the same of a step, by the standing of the innermost group
 abbrev pub MarksTell : Type 0
-MarksTell = (t : List ℕ) (n : ℕ) (s : State) (l : List ℕ) (m : ℕ) (s′ : State) → step t n s l ≡ go m s′ → (reads (directiveOf l) (standingOf (s .groups)) ≡ true) ↔ Read m
+MarksTell = (t : List ℕ) (n : ℕ) (s : State) (l : List ℕ) (m : ℕ) (s′ : State) → step t n s l ≡ go m s′
+    → (reads (directiveOf l) (standingOf (s .groups)) ≡ true) ↔ Read m
 
 -- How a line l₂ of the second file agrees with the line l₁ of the same number, which the first run gave the mark m. Both are plain, or both
 -- have the same word, `elif` and `elseif` being one; a directive that was read is the same in both, and the tables agree on the records
@@ -43,7 +43,7 @@ pub record Comparable (f₁ t₁ : List ℕ) (ms : List ℕ) (f₂ t₂ : List �
   pub agrees : (i : ℕ) → i < length (lines f₁) → Agrees t₁ t₂ (getD ms i 0) (getD (lines f₁) i []) (getD (lines f₂) i [])
   pub sound : wellFormed t₂ ≡ true
   pub small : length f₂ ≤ MOST-FILE
-  pub short : (i : ℕ) → i < length (lines f₂) → length (getD (lines f₂) i []) ≤ MOST-LINE
+  pub short : (i : ℕ) → i < length (lines f₂) → length (getD (lines f₂) i []) ≤ 1024
   pub enough : length (lines f₂) ≤ room
 
 -- then the second run is accepted too, with the same marks and the same count
