@@ -16,7 +16,7 @@ use Rattle.nesting.specs.Groups.{Group, group}
 use Rattle.nesting.specs.Decide.{State, Outcome, go, stop, decided}
 use Rattle.select.specs.Step.{heard, step}
 use Rattle.select.specs.Select.{Result, accepted, refused, prepend, atEnd, after, run}
-use Rattle.select.proofs.Alike.{never}
+use Rattle.select.proofs.Before.{never}
 use Rattle.blocks.specs.Decides.{WithinLimit}
 use Rattle.blocks.proofs.MayFollow.{Rest, nothing-left}
 use Rattle.blocks.proofs.GroupMoves.{flags, flags-length, Moved, Moving, moved-back, decided-moves}

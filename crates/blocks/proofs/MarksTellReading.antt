@@ -13,7 +13,7 @@ use Rattle.line.specs.declared.Directive.the-variants.{Elseif, Else, Endif}
 use Rattle.condition.specs.Conditions.{says}
 use Rattle.condition.specs.declared.Condition.{Condition}
 use Rattle.condition.specs.declared.Condition.the-variants.{Holds, Fails, Wrong}
-use Rattle.select.specs.Isolation.{Read}
+use Rattle.isolation.specs.Isolation.{Read}
 use Rattle.select.proofs.Marked.{marks-each-line}
 use Rattle.blocks.specs.Blocks.{Blocks, empty, line, group, Branches, endif, elseif, else}
 use Rattle.blocks.specs.Meaning.{Meaning, means, fault, single, _then_, branch, otherwise, closing, meaning, branches}

@@ -16,7 +16,7 @@ use Rattle.condition.specs.declared.Condition.{Condition}
 use Rattle.nesting.specs.Decide.{State, stop, decided}
 use Rattle.select.specs.Step.{heard, step}
 use Rattle.select.specs.Select.{Result, accepted, refused, run, start}
-use Rattle.select.proofs.Alike.{never}
+use Rattle.select.proofs.Before.{never}
 use Rattle.select.proofs.Steps.{long-step, decided-step}
 use Rattle.blocks.specs.Blocks.{Blocks, opens, Derives, depth}
 use Rattle.blocks.specs.Meaning.{fault, meaning}

@@ -10,7 +10,7 @@ use lib.ListN.{length, getD}
 use Rattle.settings.specs.Table.{wellFormed}
 use Rattle.line.specs.Lines.{lines}
 use Rattle.select.specs.Select.{Result, accepted, refused, run, start, selection}
-use Rattle.select.specs.Isolation.{Read}
+use Rattle.isolation.specs.Isolation.{Read}
 use Rattle.blocks.specs.Blocks.{Blocks, Derives, depth}
 use Rattle.blocks.specs.Meaning.{Meaning, means, fault, meaning}
 use Rattle.blocks.specs.Reading.{readsOf}

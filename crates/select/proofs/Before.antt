@@ -2,13 +2,15 @@
 use Prim.Native.Nat.{ℕ, _≤_, _<_}
 use native.Mathlib.Omega.{arith}
 use mathlib.Core.Path.{_≡_, refl}
-use mathlib.Core.Bool.{true, false}
+use mathlib.Core.Bool.{Bool, true, false}
 use mathlib.Core.List.{List}
 use lib.ListN.{length}
-use borrow.Author.Tests.{lt-ltb, le-ltb}
+use lib.Dec.{ltb}
+use borrow.Author.Tests.{lt-ltb, le-ltb, ltb-false}
+use Rattle.text.specs.Bytes.{pick}
 use Rattle.settings.specs.Table.{wellFormed}
 use Rattle.line.specs.Lines.{lines}
-use Rattle.select.specs.Select.{refused, selection, run, start}
+use Rattle.select.specs.Select.{accepted, refused, selection, run, start}
 use Rattle.select.specs.Running.{Unfit}
 
 module _ (f t : List ℕ) (room : ℕ) where
@@ -41,3 +43,23 @@ module _ (f t : List ℕ) (room : ℕ) where
 
         pub fit : length (lines f) ≤ room → Unfit f t room 0
         fit h = record { refuses = λ z. absurd (z refl); passes = λ _. record { sound = sound; few = few; enough = h; runs = runs h } }
+
+-- a refusal is not accepted
+pub never : (A : Type 0) (k n : ℕ) (ms : List ℕ) (c : ℕ) → refused k n ≡ accepted ms c → A
+never A k n ms c e = let z : _≡_ {A = ℕ} 0 1 = cc in absurd (omega arith)
+
+-- an accepted selection passed every test before its lines
+pub accepted-runs : (f t : List ℕ) (room : ℕ) (ms : List ℕ) (c : ℕ) → selection f t room ≡ accepted ms c
+    → (run t 1 start (lines f) ≡ accepted ms c) × (length (lines f) ≤ 4096)
+unfolding selection
+accepted-runs f t room ms c h =
+    by (wellFormed t) (ltb 65536 (length f)) (ltb 4096 (length (lines f))) refl (ltb room (length (lines f))) h
+  where
+    by : (a b d : Bool) → ltb 4096 (length (lines f)) ≡ d → (e : Bool)
+        → pick a (pick b (refused 14 0) (pick d (refused 15 0) (pick e (refused 16 0) (run t 1 start (lines f))))) (refused 1 0) ≡ accepted ms c
+        → (run t 1 start (lines f) ≡ accepted ms c) × (length (lines f) ≤ 4096)
+    by true true d q e h = never _ 14 0 ms c h
+    by true false true q e h = never _ 15 0 ms c h
+    by true false false q true h = never _ 16 0 ms c h
+    by true false false q false h = (h, ltb-false 4096 (length (lines f)) q)
+    by false b d q e h = never _ 1 0 ms c h

@@ -1,4 +1,3 @@
-pub mod Alike
 pub mod Underway
 pub mod Steps
 pub mod Filled
@@ -6,5 +5,4 @@ pub mod Ends
 pub mod Turns
 pub mod Before
 pub mod Whole
-pub mod Isolated
 pub mod Marked

@@ -9,8 +9,7 @@ use Rattle.nesting.specs.Groups.{Group, group}
 use Rattle.nesting.specs.Decide.{State, Outcome, go, stop}
 use Rattle.select.specs.Step.{step}
 use Rattle.select.specs.Select.{Result, accepted, refused, prepend, atEnd, after, run, start, MarksEachLine}
-use Rattle.select.proofs.Alike.{never}
-use Rattle.select.proofs.Isolated.{accepted-runs}
+use Rattle.select.proofs.Before.{never, accepted-runs}
 
 -- as many as there are lines, if there are any
 abbrev Many : ℕ → Result → Type 0

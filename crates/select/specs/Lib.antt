@@ -1,5 +1,4 @@
 pub mod Step
 pub mod Select
 pub mod Running
-pub mod Isolation
 pub mod Examples

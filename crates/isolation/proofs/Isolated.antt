@@ -19,13 +19,13 @@ use Rattle.nesting.specs.Groups.{standingOf}
 use Rattle.ruling.specs.Standings.{reads}
 use Rattle.nesting.specs.Decide.{State}
 use Rattle.nesting.proofs.Decided.{Marked, Unmarked, read-marked, unread-marked}
 use Rattle.select.specs.Step.{heard, step}
 use Rattle.select.specs.Select.{Result, accepted, refused, run, start, selection, linesOf, Selects}
 use Rattle.select.specs.declared.Answer.{Answer}
 use Rattle.select.specs.declared.Answer.the-variants.{Accepted}
-use Rattle.select.specs.Isolation.{MarksTell, Agrees, Isolation, TwoCalls}
-use Rattle.select.proofs.Alike.{Like, AllLike, never, same-run}
-use Rattle.select.proofs.Before.{runs}
+use Rattle.isolation.specs.Isolation.{MarksTell, Agrees, Isolation, TwoCalls}
+use Rattle.isolation.proofs.Simulation.{Like, AllLike, same-run}
+use Rattle.select.proofs.Before.{runs, accepted-runs}
 
 -- lines that agree are alike
 agree-like : (t₁ t₂ : List ℕ) (m : ℕ) (l₁ l₂ : List ℕ) → length l₂ ≤ 1024 → Agrees t₁ t₂ m l₁ l₂ → Like t₁ t₂ m l₁ l₂
@@ -35,22 +35,6 @@ agree-like t₁ t₂ m l₁ l₂ h a =
       word = a .word;
       said = λ r. ap (λ l. says t₂ (directiveOf l₁) (textOf l)) (a .bytes r) ∙ sym (same-says t₁ t₂ (textOf l₁) (directiveOf l₁) (a .records r));
     }
-
--- an accepted selection passed every test before its lines
-pub accepted-runs : (f t : List ℕ) (room : ℕ) (ms : List ℕ) (c : ℕ) → selection f t room ≡ accepted ms c
-    → (run t 1 start (lines f) ≡ accepted ms c) × (length (lines f) ≤ 4096)
-unfolding selection
-accepted-runs f t room ms c h =
-    by (wellFormed t) (ltb 65536 (length f)) (ltb 4096 (length (lines f))) refl (ltb room (length (lines f))) h
-  where
-    by : (a b d : Bool) → ltb 4096 (length (lines f)) ≡ d → (e : Bool)
-        → pick a (pick b (refused 14 0) (pick d (refused 15 0) (pick e (refused 16 0) (run t 1 start (lines f))))) (refused 1 0) ≡ accepted ms c
-        → (run t 1 start (lines f) ≡ accepted ms c) × (length (lines f) ≤ 4096)
-    by true true d q e h = never _ 14 0 ms c h
-    by true false true q e h = never _ 15 0 ms c h
-    by true false false q true h = never _ 16 0 ms c h
-    by true false false q false h = (h, ltb-false 4096 (length (lines f)) q)
-    by false b d q e h = never _ 1 0 ms c h
 
 pub isolation : Isolation
 isolation f₁ t₁ room₁ ms c h f₂ t₂ room₂ k =

@@ -19,18 +19,16 @@ use Rattle.nesting.specs.Groups.{Group, standingOf}
 use Rattle.ruling.specs.Standings.{reads}
 use Rattle.nesting.specs.Decide.{State, Outcome, go, stop, decided}
 use Rattle.nesting.proofs.Decided.{Marked, read-marked}
+use Rattle.select.proofs.Before.{never}
 use Rattle.select.specs.Step.{heard, step}
 use Rattle.select.proofs.Steps.{decided-step}
 use Rattle.select.specs.Select.{Result, accepted, refused, prepend, atEnd, after, run}
 
 -- how line l₂ of a second run is like line l₁ of the first, which gives it the mark m
 pub record Like (t₁ t₂ : List ℕ) (m : ℕ) (l₁ l₂ : List ℕ) : Type 0 where
   pub short : length l₂ ≤ 1024
   pub word : directiveOf l₂ ≡ directiveOf l₁
   pub said : 3 ≤ m → says t₂ (directiveOf l₁) (textOf l₂) ≡ says t₁ (directiveOf l₁) (textOf l₁)
-
-pub never : (A : Type 0) (k n : ℕ) (ms : List ℕ) (c : ℕ) → refused k n ≡ accepted ms c → A
-never A k n ms c e = let z : _≡_ {A = ℕ} 0 1 = cc in absurd (omega arith)
 
 never-stops : (A : Type 0) (r m : ℕ) (s : State) → stop r ≡ go m s → A
 never-stops A r m s e = let z : _≡_ {A = ℕ} 0 1 = cc in absurd (omega arith)
