@@ -43,7 +43,11 @@ pub fn time() {
     );
 }
 
-/// The first two, once each.
+/// The first two, once each, and the first over no settings.
+pub fn once_unset() {
+    proved(EQUAL, &[]);
+}
+
 pub fn once_equal() {
     proved(EQUAL, &settings::record("X", 1));
 }

@@ -51,6 +51,26 @@ fn file(lines: usize, bytes: usize) -> String {
     text
 }
 
+/// A file whose first branches are all taken, so that one condition of each group is read: three in five are expressions.
+pub fn calm() -> String {
+    let mut text = String::new();
+    for group in 0..LINES / GROUP {
+        let name = group % SET;
+        let open = match group % 5 {
+            0..=2 => format!("!if $(SETTING_{name:04}) == {name}"),
+            _ => format!("!ifdef SETTING_{name:04}"),
+        };
+        let next = format!("!elseif $(SETTING_{name:04}) < {}", group % 7);
+        for directive in [open, next, "!else".to_string(), "!endif".to_string()] {
+            text += &format!("{directive}\n");
+            for _ in 0..PLAIN / DIRECTIVES {
+                text += &format!("{:-<12}{group:03}\n", "");
+            }
+        }
+    }
+    text
+}
+
 /// Some of them taken, some not; a few names are not set.
 fn directives_of(group: usize) -> [String; DIRECTIVES] {
     let (one, other) = (group % SET, group * 7 % SET);

@@ -16,7 +16,7 @@ struct Counted {
     call: fn(),
 }
 
-const COUNTED: [Counted; 7] = [
+const COUNTED: [Counted; 9] = [
     Counted {
         name: "tokens",
         what: "tokens of a long expression (682 bytes)",
@@ -34,6 +34,12 @@ const COUNTED: [Counted; 7] = [
         what: "that check and a lookup of the last name",
         function: "korzhinay_lookup",
         call: tables::once_last,
+    },
+    Counted {
+        name: "unset",
+        what: "`$(X) == TRUE`, an empty table",
+        function: "korzhinay_evaluate",
+        call: evaluation::once_unset,
     },
     Counted {
         name: "equal",
@@ -58,6 +64,13 @@ const COUNTED: [Counted; 7] = [
         what: "selection: 32 KiB, 2000 lines, 500 directives, 50 settings",
         function: "korzhinay_select",
         call: selection::once_half,
+    },
+    Counted {
+        name: "calm",
+        what:
+            "selection: 62 KiB, 4000 lines, 1000 directives, 50 settings, each first branch taken",
+        function: "korzhinay_select",
+        call: selection::once_calm,
     },
 ];
 

@@ -37,6 +37,10 @@ pub fn once_half() {
     select(&file);
 }
 
+pub fn once_calm() {
+    select(&files::calm());
+}
+
 fn select(file: &str) {
     let mut marks = vec![0; MARKS];
     let outcome = proved(
