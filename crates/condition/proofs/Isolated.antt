@@ -3,9 +3,6 @@ use Prim.Native.Nat.{ℕ}
 use mathlib.Core.Path.{_≡_, refl, sym, ap, _∙_}
 use mathlib.Core.Bool.{Bool, true, false}
 use mathlib.Core.List.{List}
-use lib.ListN.{take, drop}
-use Rattle.text.specs.Runs.{span}
-use Rattle.text.specs.declared.runs.Set.the-variants.{Blanks}
 use Rattle.settings.specs.Records.{recordUnder, Content, number as number-in, string as string-in, wide as wide-in, missing, contentIn, contentOf}
 use Rattle.settings.specs.Setting.{under}
 use Rattle.settings.specs.declared.Setting.{Setting}
@@ -17,7 +14,7 @@ use Rattle.evaluation.specs.Isolation.{unplacedAnswer}
 use Rattle.evaluation.proofs.Isolated.{isolated}
 use Rattle.line.specs.declared.Directive.{Directive}
 use Rattle.line.specs.declared.Directive.the-variants.{Plain, If, Ifdef, Ifndef, Elseif, Else, Endif, Unknown}
-use Rattle.condition.specs.Conditions.{ofAnswer, expressionSays, nameAt, namedSays, nameSays, says}
+use Rattle.condition.specs.Conditions.{ofAnswer, expressionSays, namedSays, nameSays, says}
 use Rattle.condition.specs.Naming.{macroIn, SameRecords}
 
 -- an answer's place does not matter to a condition

@@ -7,10 +7,7 @@ use mathlib.Core.List.{List, [], _++_}
 use lib.ListN.{length, getD, take, drop}
 use lib.Seq.{take-at}
 use lib.Dec.{ltb}
-use borrow.Author.Tests.{ltb-false}
-use Rattle.text.specs.Bytes.{pick}
 use Rattle.text.proofs.Laws.{pick-case}
-use Rattle.settings.specs.Table.{wellFormed}
 use Rattle.line.specs.Lines.{lines}
 use Rattle.line.specs.Directives.{directiveOf, textOf}
 use Rattle.condition.specs.Conditions.{says, countOf}
@@ -20,7 +17,7 @@ use Rattle.ruling.specs.Standings.{reads}
 use Rattle.nesting.specs.Decide.{State}
 use Rattle.nesting.proofs.Decided.{Marked, Unmarked, read-marked, unread-marked}
 use Rattle.select.specs.Step.{heard, step}
-use Rattle.select.specs.Select.{Result, accepted, refused, run, start, selection, linesOf, Selects}
+use Rattle.select.specs.Select.{Result, accepted, refused, start, selection, linesOf, Selects}
 use Rattle.select.specs.declared.Answer.{Answer}
 use Rattle.select.specs.declared.Answer.the-variants.{Accepted}
 use Rattle.isolation.specs.Isolation.{MarksTell, Agrees, Isolation, TwoCalls}

@@ -2,7 +2,7 @@
 -- directive is read, and a directive that is read has a mark of 3 or more. Assumes nothing.
 use Prim.Native.Nat.{ℕ, suc, _+_, _≤_, _<_}
 use native.Mathlib.Omega.{arith}
-use mathlib.Core.Path.{_≡_, refl, sym, ap, _∙_}
+use mathlib.Core.Path.{_≡_, refl, sym, _∙_}
 use mathlib.Core.Bool.{Bool, true, false}
 use mathlib.Core.List.{List, [], _∷_}
 use lib.ListN.{length, getD}
@@ -11,18 +11,16 @@ use borrow.Author.Tests.{ltb-false}
 use Rattle.units.specs.Refusals.{LINE-LONG}
 use Rattle.text.specs.Bytes.{pick}
 use Rattle.line.specs.Directives.{directiveOf, textOf}
-use Rattle.line.specs.declared.Directive.{Directive}
 use Rattle.condition.specs.Conditions.{says, countOf}
-use Rattle.condition.specs.declared.Condition.{Condition}
 use Rattle.condition.specs.declared.Condition.the-variants.{Fails}
-use Rattle.nesting.specs.Groups.{Group, standingOf}
+use Rattle.nesting.specs.Groups.{standingOf}
 use Rattle.ruling.specs.Standings.{reads}
 use Rattle.nesting.specs.Decide.{State, Outcome, go, stop, decided}
 use Rattle.nesting.proofs.Decided.{Marked, read-marked}
 use Rattle.select.proofs.Before.{never}
 use Rattle.select.specs.Step.{heard, step}
 use Rattle.select.proofs.Steps.{decided-step}
-use Rattle.select.specs.Select.{Result, accepted, refused, prepend, atEnd, after, run}
+use Rattle.select.specs.Select.{Result, accepted, refused, prepend, after, run}
 
 -- how line l₂ of a second run is like line l₁ of the first, which gives it the mark m
 pub record Like (t₁ t₂ : List ℕ) (m : ℕ) (l₁ l₂ : List ℕ) : Type 0 where

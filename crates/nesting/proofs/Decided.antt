@@ -1,9 +1,9 @@
 -- What every outcome of a line has: the count that was handed in, and, where the directive was read, a mark of 3 or more. Assumes nothing.
 use Prim.Native.Nat.{ℕ, _≤_}
 use native.Mathlib.Omega.{arith}
-use mathlib.Core.Path.{_≡_, refl, sym, ap, _∙_}
+use mathlib.Core.Path.{_≡_, refl, sym, _∙_}
 use mathlib.Core.Bool.{Bool, true, false, false≢true}
-use mathlib.Core.List.{List, [], _∷_}
+use mathlib.Core.List.{List}
 use lib.ListN.{length}
 use lib.Dec.{leb}
 use Rattle.text.specs.Bytes.{pick}
@@ -12,10 +12,10 @@ use Rattle.line.specs.declared.Directive.{Directive}
 use Rattle.line.specs.declared.Directive.the-variants.{Plain, If, Ifdef, Ifndef, Elseif, Else, Endif, Unknown}
 use Rattle.condition.specs.declared.Condition.{Condition}
 use Rattle.condition.specs.declared.Condition.the-variants.{Holds, Fails, Wrong}
-use Rattle.nesting.specs.Groups.{Group, group, standingOf, closedOf}
+use Rattle.nesting.specs.Groups.{Group, standingOf, closedOf}
 use Rattle.ruling.specs.Standings.{live, around, seeking, reads}
-use Rattle.ruling.specs.Rules.{unless, turned, elseifIn, elseifRuling, elseIn, elseRuling, endRuling}
-use Rattle.nesting.specs.Decide.{State, Outcome, go, stop, applied, opened, openedBy, opening, decided}
+use Rattle.ruling.specs.Rules.{unless, turned, elseifRuling, elseRuling, endRuling}
+use Rattle.nesting.specs.Decide.{Outcome, go, stop, applied, openedBy, opening, decided}
 use Rattle.ruling.specs.declared.Standing.{Standing}
 use Rattle.ruling.specs.declared.Standing.the-variants.{Outside, Dead, Seeking, Taken, Past}
 use Rattle.ruling.specs.declared.Ruling.{Ruling}

@@ -3,7 +3,7 @@ use condition::Condition;
 use line::Directive;
 ghost use mathlib.Core.Path.{_≡_};
 ghost use Rattle.ruling.specs.Standings.{live as liveOf, around as aroundOf, seeking as seekingOf, reads as readsOf};
-ghost use Rattle.ruling.specs.Rules.{unless as unlessOf, turned as turnedBy, elseifIn, elseifRuling, elseIn, elseRuling, endRuling};
+ghost use Rattle.ruling.specs.Rules.{unless as unlessOf, turned as turnedBy, elseifRuling, elseRuling, endRuling};
 
 // How an open group stands, or that none is open.
 pub enum Standing {

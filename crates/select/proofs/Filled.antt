@@ -1,8 +1,8 @@
 -- A list filled from the front. Assumes nothing.
 use Prim.Native.Nat.{ℕ, _+_, _-_, _≤_}
 use native.Mathlib.Omega.{arith}
-use mathlib.Core.Path.{_≡_, refl, ap, _∙_}
-use mathlib.Core.List.{List, [], _++_, append-nil}
+use mathlib.Core.Path.{_≡_, ap, _∙_}
+use mathlib.Core.List.{List, _++_, append-nil}
 use lib.ListN.{length, drop, replicate, length-append, length-drop, length-replicate, drop-of-length-le}
 
 pub filled-length : (l : List ℕ) (b i : ℕ) (m : List ℕ) → i ≤ length l → m ≡ replicate i b ++ drop i l → length m ≡ length l

@@ -1,7 +1,6 @@
 -- An accepted selection has a mark for each line. Assumes nothing.
 use Prim.Native.Nat.{ℕ, suc, _+_}
-use native.Mathlib.Omega.{arith}
-use mathlib.Core.Path.{_≡_, refl, sym, ap, _∙_}
+use mathlib.Core.Path.{_≡_, refl, ap}
 use mathlib.Core.List.{List, [], _∷_}
 use lib.ListN.{length}
 use Rattle.line.specs.Lines.{lines}
@@ -9,7 +8,7 @@ use Rattle.nesting.specs.Groups.{Group, group}
 use Rattle.nesting.specs.Decide.{State, Outcome, go, stop}
 use Rattle.select.specs.Step.{step}
 use Rattle.select.specs.Select.{Result, accepted, refused, prepend, atEnd, after, run, start, MarksEachLine}
-use Rattle.select.proofs.Before.{never, accepted-runs}
+use Rattle.select.proofs.Before.{accepted-runs}
 
 -- as many as there are lines, if there are any
 abbrev Many : ℕ → Result → Type 0

@@ -1,5 +1,4 @@
 -- The ruling decides.
-use Rattle.nesting.specs.Decide.{state, turnTo, finalTo, closeOne}
 use borrow.Author.Needs.{needs}
 use Rattle.nesting.proofs.stack.apply.Statement.{statement}
 use Rattle.nesting.proofs.stack.apply.Tie as tie

@@ -1,5 +1,5 @@
 -- The remainder decides.
-use borrow.Author.Tests.{eq-eqb, ne-eqb}
+use borrow.Author.Tests.{ne-eqb}
 use Rattle.nesting.specs.Stack.{standingIn}
 use Rattle.nesting.proofs.stack.standing_in.Statement.{statement}
 use Rattle.nesting.proofs.stack.standing_in.Tie as tie

@@ -1,9 +1,9 @@
 -- What was passed is filled, the rest is as it was.
 use native.Mathlib.Omega.{arith}
 use Prim.Native.Nat.{_-_, _≤_, _<_}
-use mathlib.Core.Path.{_≡_, _∙_}
+use mathlib.Core.Path.{_≡_}
 use mathlib.Core.List.{_++_}
-use lib.ListN.{length, drop, replicate, length-set, drop-of-length-le}
+use lib.ListN.{length, drop, replicate}
 use borrow.Author.Fill.{fill-none, fill-more}
 use Rattle.select.proofs.Filled.{all-filled, filled-length}
 use Rattle.select.proofs.fill.fill.Statement.{statement}
