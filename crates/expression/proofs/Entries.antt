@@ -13,8 +13,8 @@ use Rattle.grammar.specs.Grammar.{isPrimary}
 use Rattle.value.specs.Attributes.{Attributes, unaryFrom, binaryFrom, choiceFrom}
 use Rattle.operands.specs.Stack.{operandAt, countAt, piled, Leaves}
 use Rattle.operands.proofs.Piles.{pile-length, latest, alone}
-use Rattle.syntax.specs.Order.{UNARY, SKIP}
-use Rattle.expression.specs.Postfix.{Input, codeIn, primaryIn, Entry, operand, unary, binary, choice, skip, entryOf, OnOne, OnTwo, OnThree, Does, Gives}
+use Rattle.syntax.specs.Order.{UNARY, FILLER}
+use Rattle.expression.specs.Postfix.{Input, codeIn, primaryIn, Entry, operand, unary, binary, choice, filler, entryOf, OnOne, OnTwo, OnThree, Does, Gives}
 
 -- what an entry stands for, from what is tested
 module _ (i : Input) (x : ℕ) where
@@ -24,14 +24,14 @@ module _ (i : Input) (x : ℕ) where
   pub is-operand : x < UNARY → isPrimary (codeIn i x) ≡ true → entryOf i x ≡ operand
   is-operand h e = rw (lt-leb UNARY x h, e)
 
-  pub is-skip : x < UNARY → isPrimary (codeIn i x) ≡ false → x ≡ SKIP → entryOf i x ≡ skip
-  is-skip h e f = rw (lt-leb UNARY x h, e, eq-eqb x SKIP f)
+  pub is-filler : x < UNARY → isPrimary (codeIn i x) ≡ false → x ≡ FILLER → entryOf i x ≡ filler
+  is-filler h e f = rw (lt-leb UNARY x h, e, eq-eqb x FILLER f)
 
-  pub is-choice : x < UNARY → isPrimary (codeIn i x) ≡ false → (x ≡ SKIP → ⊥) → codeIn i x ≡ QUESTION → entryOf i x ≡ choice
-  is-choice h e f g = rw (lt-leb UNARY x h, e, ne-eqb x SKIP f, eq-eqb (codeIn i x) QUESTION g)
+  pub is-choice : x < UNARY → isPrimary (codeIn i x) ≡ false → (x ≡ FILLER → ⊥) → codeIn i x ≡ QUESTION → entryOf i x ≡ choice
+  is-choice h e f g = rw (lt-leb UNARY x h, e, ne-eqb x FILLER f, eq-eqb (codeIn i x) QUESTION g)
 
-  pub is-binary : x < UNARY → isPrimary (codeIn i x) ≡ false → (x ≡ SKIP → ⊥) → (codeIn i x ≡ QUESTION → ⊥) → entryOf i x ≡ binary
-  is-binary h e f g = rw (lt-leb UNARY x h, e, ne-eqb x SKIP f, ne-eqb (codeIn i x) QUESTION g)
+  pub is-binary : x < UNARY → isPrimary (codeIn i x) ≡ false → (x ≡ FILLER → ⊥) → (codeIn i x ≡ QUESTION → ⊥) → entryOf i x ≡ binary
+  is-binary h e f g = rw (lt-leb UNARY x h, e, ne-eqb x FILLER f, ne-eqb (codeIn i x) QUESTION g)
 
 -- after the last entry
 drop-taken : (m : ℕ) (o : List ℕ) → drop m (take m o) ≡ []
@@ -139,8 +139,8 @@ module _ {k : Work} {w : List (List ℕ)} {top p : ℕ} where
         (f .0, omega (arith, h .few, ap (λ a. a .count) (f .1), ap (λ a. a .count) (f .2), ap (λ a. a .count) (f .3)))
 
   -- what is left to do after an entry
-  pub skip-on : {x : ℕ} → Next k skip x w top p → Rest k w top (p + 1)
-  skip-on r = record { leaves = r .does }
+  pub filler-on : {x : ℕ} → Next k filler x w top p → Rest k w top (p + 1)
+  filler-on r = record { leaves = r .does }
 
   module _ {x : ℕ} (w′ : List (List ℕ)) where
     pub operand-on : Next k operand x w top p → Left k w top (primaryIn (k .i) x) w′ → Rest k w′ (top + 1) (p + 1)

@@ -12,8 +12,8 @@ use Rattle.grammar.specs.Grammar.{level, isUnary}
 use Rattle.grammar.specs.Parse.{Ends, Goal, Result, bad, got, find}
 use Rattle.grammar.specs.Climb.{Climbs}
 use Rattle.grammar.proofs.Steps.{unary-bad, unary-made}
-use Rattle.syntax.specs.Order.{codeAt, UNARY, SKIP, postfix, Ordered}
-use Rattle.syntax.specs.Descent.{BAD, Placed, Places, back}
+use Rattle.syntax.specs.Order.{codeAt, UNARY, FILLER, postfix, Ordered}
+use Rattle.syntax.specs.Descent.{BAD, Appended, Appends, back}
 
 -- past the tokens stands the end
 pub ended : (cs : List ℕ) (n : ℕ) → Ends (codeAt cs n) (λ i. i) n
@@ -39,7 +39,7 @@ unfolding back
 no-back j = let e : j - j ≡ 0 = omega arith in rw e
 
 module _ (cs : List ℕ) (n : ℕ) where
-  -- an operand behind a run, in which nothing goes wrong or something does
+  -- an operand after a run, in which nothing goes wrong or something does
   pub applied : (l : List ℕ) (q m i j : ℕ) → i + m ≡ j → ((x : ℕ) → i ≤ x → x < j → isUnary (codeAt cs n x) ≡ true)
       → Ordered cs n (find (level 1) j) (got l q)
       → Ordered cs n (find (level 1) i) (got (l ++ back m i) q)
@@ -56,17 +56,17 @@ module _ (cs : List ℕ) (n : ℕ) where
   wrong z (suc m) i j q f u =
       unary-bad (ended cs n) i (f i (omega arith) (omega arith)) z (wrong z m (i + 1) j (omega arith) (λ x a b. f x (omega arith) b) u)
 
--- the three ways out of a part of the descent: a fault handed on, a fault of its own, and a part that was found
+-- the three ways out of a function of the descent: a fault handed on, a fault of its own, and a part that was found
 module _ {cs : List ℕ} {n : ℕ} {g : Goal (List ℕ)} {i m : ℕ} {o : List ℕ} {m′ : ℕ} {o′ : List ℕ} where
-  pub handed : {r : ℕ} → BAD ≤ r → Ordered cs n g (bad (r - BAD)) → Places cs n g i m o r m′ o′
+  pub handed : {r : ℕ} → BAD ≤ r → Ordered cs n g (bad (r - BAD)) → Appends cs n g i m o r m′ o′
   handed h u = record { wrong = λ _. u; right = λ l. absurd (omega arith) }
 
-  pub faulty : (z : ℕ) → Ordered cs n g (bad z) → Places cs n g i m o (BAD + z) m′ o′
+  pub faulty : (z : ℕ) → Ordered cs n g (bad z) → Appends cs n g i m o (BAD + z) m′ o′
   faulty z u =
       let e : BAD + z - BAD ≡ z = omega arith in
       record { wrong = λ _. rw e u; right = λ l. absurd (omega arith) }
 
-  pub found : {r : ℕ} → r < BAD → Placed cs n g i m o r m′ o′ → Places cs n g i m o r m′ o′
+  pub found : {r : ℕ} → r < BAD → Appended cs n g i m o r m′ o′ → Appends cs n g i m o r m′ o′
   found h p = record { wrong = λ l. absurd (omega arith); right = λ _. p }
 
 -- what the loop over the operators of a level has added so far
@@ -76,11 +76,11 @@ pub record Grown (cs : List ℕ) (n k at₀ m₀ : ℕ) (o₀ : List ℕ) (low a
   pub goes : (a : List ℕ) (r : Result (List ℕ)) → Climbs (codeAt cs n) postfix (λ i. i) n low k (a ++ more) at r
       → Climbs (codeAt cs n) postfix (λ i. i) n 1 k a at₀ r
 
--- entries behind entries
+-- entries after entries
 pub after : (r t u a b : List ℕ) → r ≡ u ++ b → u ≡ t ++ a → r ≡ t ++ (a ++ b)
 after r t u a b e f = rw (e, f) (append-assoc t a b)
 
 -- the entries of a choice
-pub chosen : (t t₁ t₂ r c a b : List ℕ) (q : ℕ) → t₁ ≡ t ++ c → t₂ ≡ t₁ ++ a → r ≡ t₂ ++ ((b ++ (q ∷ [])) ++ (SKIP ∷ []))
-    → r ≡ t ++ (c ++ (a ++ (b ++ (q ∷ SKIP ∷ []))))
+pub chosen : (t t₁ t₂ r c a b : List ℕ) (q : ℕ) → t₁ ≡ t ++ c → t₂ ≡ t₁ ++ a → r ≡ t₂ ++ ((b ++ (q ∷ [])) ++ (FILLER ∷ []))
+    → r ≡ t ++ (c ++ (a ++ (b ++ (q ∷ FILLER ∷ []))))
 chosen t t₁ t₂ r c a b q e f g = rw (g, f, e) (simp append-assoc)

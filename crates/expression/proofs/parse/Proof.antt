@@ -44,8 +44,8 @@ folded s most m j o w room z f =
     let l = length-take-le m o (omega (arith, w .most, w .long)) in
     come (input s) most (s .pre .holding .few) (take m o) j (omega (arith, l, w .most)) (omega (arith, l)) (w .made) z f
 
-write-requires : tie.Need-write-requires
-write-requires c κs = search needs
+write-postfix-requires : tie.Need-write-postfix-requires
+write-postfix-requires c κs = search needs
 
 enum-known-at : tie.Need-enum-known-at
 enum-known-at c = search needs
@@ -59,14 +59,14 @@ slice-aggregate-fold c = search needs
 fold-requires : tie.Need-fold-requires
 fold-requires c κs =
     let start = c .before .before .before .before .before .before .before .before .before .before .before .before .before in
-    let write = c .before .before .before .before .before .before .write in
+    let write = c .before .before .before .before .before .before .write-postfix in
     let written = rw (c .before .before .before .before .filled .given .1) at (write .ensures) in
     foldable start 16 _ _ (write .last .0) written (omega (arith, c .before .before .if1 .taken))
 
 returns : tie.Need-returns
 returns c =
     let start = c .before .before .before .before .before .before .before .before .before .before .before .before .before .before .before in
-    let write = c .before .before .before .before .before .before .before .before .write in
+    let write = c .before .before .before .before .before .before .before .before .write-postfix in
     let written = rw (c .before .before .before .before .before .before .filled .given .1) at (write .ensures) in
     folded start 16 _ _ (write .last .0) written (omega (arith, c .before .before .before .before .if1 .taken)) (c .before .fold .result) (c .before .fold .ensures)
 
@@ -76,19 +76,19 @@ slice-aggregate-fold-2 c = search needs
 fold-requires-2 : tie.Need-fold-requires-2
 fold-requires-2 c κs =
     let start = c .before .before .before .before .before .before .before .before .before .before .before .before .before in
-    let write = c .before .before .before .before .before .before .write in
+    let write = c .before .before .before .before .before .before .write-postfix in
     let written = rw (c .before .before .before .before .filled .given .1) at (write .ensures) in
     foldable start 100 _ _ (write .last .0) written (omega (arith, written .most))
 
 returns-2 : tie.Need-returns-2
 returns-2 c =
     let start = c .before .before .before .before .before .before .before .before .before .before in
-    faulted (input start) 100 (start .pre .holding .few) _ (rw (c .before .at .given .1) at (c .before .before .before .write .ensures))
+    faulted (input start) 100 (start .pre .holding .few) _ (rw (c .before .at .given .1) at (c .before .before .before .write-postfix .ensures))
 
 returns-3 : tie.Need-returns-3
 returns-3 c =
     let start = c .before .before .before .before .before .before .before .before .before .before .before .before .before .before .before in
-    let write = c .before .before .before .before .before .before .before .before .write in
+    let write = c .before .before .before .before .before .before .before .before .write-postfix in
     let written = rw (c .before .before .before .before .before .before .filled .given .1) at (write .ensures) in
     folded start 100 _ _ (write .last .0) written (omega (arith, written .most)) (c .before .fold2 .result) (c .before .fold2 .ensures)
 
@@ -96,7 +96,7 @@ pub parse-spec : {M : Type 1} → statement M
 parse-spec =
     tie.close
     (tie.spec
-    write-requires
+    write-postfix-requires
     enum-known-at
     enum-known-filled
     slice-aggregate-fold

@@ -11,8 +11,8 @@ use Rattle.grammar.specs.Grammar.{isPrimary}
 use Rattle.grammar.proofs.Inside.{primary-inside}
 use Rattle.syntax.proofs.Orders.{ended}
 use Rattle.operands.proofs.Piles.{alone, instead}
-use Rattle.expression.specs.Postfix.{operand, unary, binary, choice, skip, primaryIn}
-use Rattle.expression.proofs.Entries.{Work, Rest, Next, begun, is-unary, is-operand, is-skip, is-choice, is-binary, opened, closed, operand-room, unary-finds, binary-finds, choice-finds, skip-on, operand-on, unary-on, binary-on, choice-on}
+use Rattle.expression.specs.Postfix.{operand, unary, binary, choice, filler, primaryIn}
+use Rattle.expression.proofs.Entries.{Work, Rest, Next, begun, is-unary, is-operand, is-filler, is-choice, is-binary, opened, closed, operand-room, unary-finds, binary-finds, choice-finds, filler-on, operand-on, unary-on, binary-on, choice-on}
 use Rattle.expression.proofs.postfix.fold.Statement.{statement}
 use Rattle.expression.proofs.postfix.fold.Tie as tie
 
@@ -47,40 +47,40 @@ work s =
     }
 
 -- what the entry at hand stands for, in each arm
-found-unary : (c : tie.Then1 Inv-loop μ-loop) → Next (work (c .before .before .before .before .before .before .before .before .before .before)) unary (c .before .wide .result) (c .before .before .before .before .loop .waiting) (c .before .before .before .before .loop .top) (c .before .before .before .before .loop .p)
+found-unary : (c : tie.Then1 Inv-loop μ-loop) → Next (work (c .before .before .before .before .before .before .before .before .before .before)) unary (c .before .entry-number .result) (c .before .before .before .before .loop .waiting) (c .before .before .before .before .loop .top) (c .before .before .before .before .loop .p)
 found-unary c =
     let start = c .before .before .before .before .before .before .before .before .before .before in
     let loop = c .before .before .before .before .loop in
-    let x = c .before .wide in
+    let x = c .before .entry-number in
     opened unary (x .result) (c .before .before .before .loop-test .taken) (omega (arith, start .pre .all, start .pre .long)) (x .ensures) (is-unary (work start .i) (x .result) (c .if1 .taken)) (loop .inv .3)
 
-found-operand : (c : tie.Then2 Inv-loop μ-loop) → Next (work (c .before .before .before .before .before .before .before .before .before .before .before .before .before)) operand (c .before .before .before .before .wide .result) (c .before .before .before .before .before .before .before .loop .waiting) (c .before .before .before .before .before .before .before .loop .top) (c .before .before .before .before .before .before .before .loop .p)
+found-operand : (c : tie.Then2 Inv-loop μ-loop) → Next (work (c .before .before .before .before .before .before .before .before .before .before .before .before .before)) operand (c .before .before .before .before .entry-number .result) (c .before .before .before .before .before .before .before .loop .waiting) (c .before .before .before .before .before .before .before .loop .top) (c .before .before .before .before .before .before .before .loop .p)
 found-operand c =
     let start = c .before .before .before .before .before .before .before .before .before .before .before .before .before in
     let loop = c .before .before .before .before .before .before .before .loop in
-    let x = c .before .before .before .before .wide in
+    let x = c .before .before .before .before .entry-number in
     opened operand (x .result) (c .before .before .before .before .before .before .loop-test .taken) (omega (arith, start .pre .all, start .pre .long)) (x .ensures) (is-operand (work start .i) (x .result) (c .before .before .before .if1 .left) (ap isPrimary (sym (c .before .before .code-at2 .ensures)) ∙ sym (c .before .is-primary .ensures) ∙ c .if2 .taken)) (loop .inv .3)
 
-found-choice : (c : tie.Then4 Inv-loop μ-loop) → Next (work (c .before .before .before .before .before .before .before .before .before .before .before .before .before .before .before)) choice (c .before .before .before .before .before .before .wide .result) (c .before .before .before .before .before .before .before .before .before .loop .waiting) (c .before .before .before .before .before .before .before .before .before .loop .top) (c .before .before .before .before .before .before .before .before .before .loop .p)
+found-choice : (c : tie.Then4 Inv-loop μ-loop) → Next (work (c .before .before .before .before .before .before .before .before .before .before .before .before .before .before .before)) choice (c .before .before .before .before .before .before .entry-number .result) (c .before .before .before .before .before .before .before .before .before .loop .waiting) (c .before .before .before .before .before .before .before .before .before .loop .top) (c .before .before .before .before .before .before .before .before .before .loop .p)
 found-choice c =
     let start = c .before .before .before .before .before .before .before .before .before .before .before .before .before .before .before in
     let loop = c .before .before .before .before .before .before .before .before .before .loop in
-    let x = c .before .before .before .before .before .before .wide in
+    let x = c .before .before .before .before .before .before .entry-number in
     opened choice (x .result) (c .before .before .before .before .before .before .before .before .loop-test .taken) (omega (arith, start .pre .all, start .pre .long)) (x .ensures) (is-choice (work start .i) (x .result) (c .before .before .before .before .before .if1 .left) (ap isPrimary (sym (c .before .before .before .before .code-at2 .ensures)) ∙ sym (c .before .before .before .is-primary .ensures) ∙ c .before .before .if2 .left) (λ q. c .before .if3 .taken (sym (x .ensures) ∙ q)) (sym (c .before .before .before .before .code-at2 .ensures) ∙ c .if4 .taken)) (loop .inv .3)
 
-found-binary : (c : tie.Else4 Inv-loop μ-loop) → Next (work (c .before .before .before .before .before .before .before .before .before .before .before .before .before .before .before)) binary (c .before .before .before .before .before .before .wide .result) (c .before .before .before .before .before .before .before .before .before .loop .waiting) (c .before .before .before .before .before .before .before .before .before .loop .top) (c .before .before .before .before .before .before .before .before .before .loop .p)
+found-binary : (c : tie.Else4 Inv-loop μ-loop) → Next (work (c .before .before .before .before .before .before .before .before .before .before .before .before .before .before .before)) binary (c .before .before .before .before .before .before .entry-number .result) (c .before .before .before .before .before .before .before .before .before .loop .waiting) (c .before .before .before .before .before .before .before .before .before .loop .top) (c .before .before .before .before .before .before .before .before .before .loop .p)
 found-binary c =
     let start = c .before .before .before .before .before .before .before .before .before .before .before .before .before .before .before in
     let loop = c .before .before .before .before .before .before .before .before .before .loop in
-    let x = c .before .before .before .before .before .before .wide in
+    let x = c .before .before .before .before .before .before .entry-number in
     opened binary (x .result) (c .before .before .before .before .before .before .before .before .loop-test .taken) (omega (arith, start .pre .all, start .pre .long)) (x .ensures) (is-binary (work start .i) (x .result) (c .before .before .before .before .before .if1 .left) (ap isPrimary (sym (c .before .before .before .before .code-at2 .ensures)) ∙ sym (c .before .before .before .is-primary .ensures) ∙ c .before .before .if2 .left) (λ q. c .before .if3 .taken (sym (x .ensures) ∙ q)) (λ q. c .if4 .left (c .before .before .before .before .code-at2 .ensures ∙ q))) (loop .inv .3)
 
-found-skip : (c : tie.Else3 Inv-loop μ-loop) → Next (work (c .before .before .before .before .before .before .before .before .before .before .before .before .before .before)) skip (c .before .before .before .before .before .wide .result) (c .before .before .before .before .before .before .before .before .loop .waiting) (c .before .before .before .before .before .before .before .before .loop .top) (c .before .before .before .before .before .before .before .before .loop .p)
-found-skip c =
+found-filler : (c : tie.Else3 Inv-loop μ-loop) → Next (work (c .before .before .before .before .before .before .before .before .before .before .before .before .before .before)) filler (c .before .before .before .before .before .entry-number .result) (c .before .before .before .before .before .before .before .before .loop .waiting) (c .before .before .before .before .before .before .before .before .loop .top) (c .before .before .before .before .before .before .before .before .loop .p)
+found-filler c =
     let start = c .before .before .before .before .before .before .before .before .before .before .before .before .before .before in
     let loop = c .before .before .before .before .before .before .before .before .loop in
-    let x = c .before .before .before .before .before .wide in
-    opened skip (x .result) (c .before .before .before .before .before .before .before .loop-test .taken) (omega (arith, start .pre .all, start .pre .long)) (x .ensures) (is-skip (work start .i) (x .result) (c .before .before .before .before .if1 .left) (ap isPrimary (sym (c .before .before .before .code-at2 .ensures)) ∙ sym (c .before .before .is-primary .ensures) ∙ c .before .if2 .left) (x .ensures ∙ c .if3 .left)) (loop .inv .3)
+    let x = c .before .before .before .before .before .entry-number in
+    opened filler (x .result) (c .before .before .before .before .before .before .before .loop-test .taken) (omega (arith, start .pre .all, start .pre .long)) (x .ensures) (is-filler (work start .i) (x .result) (c .before .before .before .before .if1 .left) (ap isPrimary (sym (c .before .before .before .code-at2 .ensures)) ∙ sym (c .before .before .is-primary .ensures) ∙ c .before .if2 .left) (x .ensures ∙ c .if3 .left)) (loop .inv .3)
 
 loop-holds : tie.Need-loop-holds Inv-loop μ-loop
 loop-holds c =
@@ -101,8 +101,8 @@ element-copy-out-e c =
     let test = c .loop-test in
     omega (arith, start .pre .all, start .pre .long, test .taken)
 
-wide-requires : tie.Need-wide-requires Inv-loop μ-loop
-wide-requires c κs =
+entry-number-requires : tie.Need-entry-number-requires Inv-loop μ-loop
+entry-number-requires c κs =
     search needs
 
 add-p : tie.Need-add-p Inv-loop μ-loop
@@ -159,7 +159,7 @@ is-primary-requires c κs =
 token-at-requires : tie.Need-token-at-requires Inv-loop μ-loop
 token-at-requires c κs =
     let start = c .before .before .before .before .before .before .before .before .before .before .before .before .before in
-    (start .pre .ready .holding, primary-inside (ended (start .args .codes .now) (start .args .n .0)) (c .before .before .before .before .wide .result) (ap isPrimary (sym (c .before .before .code-at2 .ensures)) ∙ sym (c .before .is-primary .ensures) ∙ c .if2 .taken))
+    (start .pre .ready .holding, primary-inside (ended (start .args .codes .now) (start .args .n .0)) (c .before .before .before .before .entry-number .result) (ap isPrimary (sym (c .before .before .code-at2 .ensures)) ∙ sym (c .before .is-primary .ensures) ∙ c .if2 .taken))
 
 of-primary-requires : tie.Need-of-primary-requires Inv-loop μ-loop
 of-primary-requires c κs =
@@ -278,7 +278,7 @@ loop-again-5 : tie.Need-loop-again-5 Inv-loop μ-loop
 loop-again-5 c =
     let loop = c .before .before .before .before .before .before .before .before .loop in
     let test = c .before .before .before .before .before .before .before .loop-test in
-    (omega (arith, test .taken), loop .inv .1, loop .inv .2, skip-on (found-skip c))
+    (omega (arith, test .taken), loop .inv .1, loop .inv .2, filler-on (found-filler c))
 
 load-requires : tie.Need-load-requires Inv-loop μ-loop
 load-requires c κs =
@@ -309,7 +309,7 @@ fold-spec =
     loop-holds
     mul-e
     element-copy-out-e
-    wide-requires
+    entry-number-requires
     add-p
     code-at-requires
     sub-unary

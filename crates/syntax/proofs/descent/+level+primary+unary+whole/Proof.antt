@@ -30,9 +30,9 @@ use Rattle.syntax.proofs.descent.+level+primary+unary+whole.Lts-whole a
 use Rattle.syntax.proofs.tokens.code_at.Reads as code-at-reads
 use Rattle.syntax.proofs.tokens.is_primary.Reads as is-primary-reads
 use Rattle.syntax.proofs.tokens.level_of.Reads as level-of-reads
-use Rattle.syntax.proofs.descent.place.Reads as place-reads
+use Rattle.syntax.proofs.descent.append.Reads as append-reads
 use Rattle.syntax.proofs.descent.run_end.Reads as run-end-reads
-use Rattle.syntax.proofs.descent.signs.Reads as signs-reads
+use Rattle.syntax.proofs.descent.append_run.Reads as append-run-reads
 use Rattle.syntax.proofs.descent.+level+primary+unary+whole.{statement}
 use Rattle.syntax.proofs.descent.+level+primary+unary+whole.Tie.{close}
 
@@ -73,7 +73,7 @@ abbrev whole-below : ℕ → In 3 whole-kinds.ps
 whole-below t = and 3 whole-kinds.ps (falls 3 whole-kinds.ps _<_ μ-whole t) whole.Pre
 
 abbrev level-claims : ℕ → level-lts.Claims
-level-claims t = (unary-below t, unary.Post, code-at-reads.Asked, code-at-reads.Learnt, level-of-reads.Asked, level-of-reads.Learnt, level-below t, level.Post, place-reads.Asked, place-reads.Learnt)
+level-claims t = (unary-below t, unary.Post, code-at-reads.Asked, code-at-reads.Learnt, level-of-reads.Asked, level-of-reads.Learnt, level-below t, level.Post, append-reads.Asked, append-reads.Learnt)
 
 abbrev level-Inv-loop : level-lts.InvT-loop
 level-Inv-loop order₀ filled₀ codes n k at₀ low₀ order filled at low =
@@ -162,14 +162,14 @@ level-returns-4 t c =
     let e : levelOf (codeAt (s .args .codes .now) (s .args .n .0) (l .at)) ≡ suc (c .before .before .before .before .before .before .level-of .result - 1) = omega (arith, lv, c .before .before .before .before .before .if2 .left) in
     handed (c .if4 .taken) (climbed (ended (s .args .codes .now) (s .args .n .0)) (s .args .i .0) (omega arith) (s .pre .1 .2) (p .made) (g .goes (p .entries) _ (joined-bad (ended (s .args .codes .now) (s .args .n .0)) (l .low) (c .before .before .before .before .before .before .level-of .result - 1) (s .args .k) (p .entries ++ g .more) (l .at) (omega (arith, c .before .before .before .before .before .if2 .left)) (omega (arith, c .before .before .before .before .before .if2 .left, c .before .before .before .before .if3 .left)) (s .pre .1 .2) e _ (c .before .level .ensures .wrong (c .if4 .taken)))))
 
-level-cast-place : (t : ℕ) → level-lts.Need-cast-place (level-claims t) (level-at t) level.Post level-Inv-loop level-μ-loop
-level-cast-place t c =
+level-cast-append : (t : ℕ) → level-lts.Need-cast-append (level-claims t) (level-at t) level.Post level-Inv-loop level-μ-loop
+level-cast-append t c =
     let s = c .before .before .before .before .before .before .before .before .before .before .before .before .before .before .before in
     let l = c .before .before .before .before .before .before .before .before .before .before .loop in
     omega (arith, l .inv .3, s .pre .1 .0 .few)
 
-level-place-requires : (t : ℕ) → level-lts.Need-place-requires (level-claims t) (level-at t) level.Post level-Inv-loop level-μ-loop
-level-place-requires t c κs =
+level-append-requires : (t : ℕ) → level-lts.Need-append-requires (level-claims t) (level-at t) level.Post level-Inv-loop level-μ-loop
+level-append-requires t c κs =
     let s = c .before .before .before .before .before .before .before .before .before .before .before .before .before .before .before in
     let l = c .before .before .before .before .before .before .before .before .before .before .loop in
     let p = c .before .before .before .before .before .before .before .before .before .before .before .before .unary .ensures .right (c .before .before .before .before .before .before .before .before .before .before .before .if1 .left) in
@@ -196,18 +196,18 @@ level-loop-again t c =
     let e : levelOf (codeAt (s .args .codes .now) (s .args .n .0) (l .at)) ≡ suc (c .before .before .before .before .before .before .before .before .before .level-of .result - 1) = omega (arith, lv, c .before .before .before .before .before .before .before .before .if2 .left) in
     let q = c .before .before .before .before .level .ensures .right (c .before .before .before .if4 .left) in
     let v = moved (ended (s .args .codes .now) (s .args .n .0)) (q .made) (omega (arith, c .before .before .before .before .before .before .before .if3 .left, s .pre .1 .2)) in
-    let w = put (c .before .before .before .before .level .last .0) (c .place .last .0) (take (l .filled) (l .order)) (q .entries) (c .before .before .before .before .level .last .1 .0) (c .place .last .1 .0) (l .at) (c .place .ensures .0) (c .place .ensures .1) (omega (arith, q .long, q .most, v, l .inv .4, p .most, s .pre .1 .0 .room, s .pre .1 .0 .few)) (q .held) in (
+    let w = put (c .before .before .before .before .level .last .0) (c .append .last .0) (take (l .filled) (l .order)) (q .entries) (c .before .before .before .before .level .last .1 .0) (c .append .last .1 .0) (l .at) (c .append .ensures .0) (c .append .ensures .1) (omega (arith, q .long, q .most, v, l .inv .4, p .most, s .pre .1 .0 .room, s .pre .1 .0 .few)) (q .held) in (
       omega (arith, c .before .before .before .before .before .before .before .before .if2 .left, l .inv .0),
       omega (arith, c .before .before .before .before .before .before .before .if3 .left),
       omega (arith, v, l .inv .2),
       v .1,
-      omega (arith, c .place .ensures .1, q .most, l .inv .4),
-      put-long (c .before .before .before .before .level .last .0) (c .place .last .0) (c .before .before .before .before .level .last .1 .0) (l .at) (c .place .ensures .0) (q .long),
-      record { more = g .more ++ (q .entries ++ (l .at ∷ [])); held = after (take (c .place .last .1 .0) (c .place .last .0)) (take (c .before .before .before .before .before .before .before .before .before .before .before .before .before .unary .last .1 .0) (c .before .before .before .before .before .before .before .before .before .before .before .before .before .unary .last .0)) (take (l .filled) (l .order)) (g .more) (q .entries ++ (l .at ∷ [])) w (g .held); goes = λ a r u. g .goes a r (joined (ended (s .args .codes .now) (s .args .n .0)) (l .low) (c .before .before .before .before .before .before .before .before .before .level-of .result - 1) (s .args .k) (a ++ g .more) (l .at) (omega (arith, c .before .before .before .before .before .before .before .before .if2 .left)) (omega (arith, c .before .before .before .before .before .before .before .before .if2 .left, c .before .before .before .before .before .before .before .if3 .left)) (s .pre .1 .2) e (q .entries) (c .before .before .before .before .level .result) (q .made) r (rw (← append-assoc a (g .more) (q .entries ++ (l .at ∷ []))) at u)) },
+      omega (arith, c .append .ensures .1, q .most, l .inv .4),
+      put-long (c .before .before .before .before .level .last .0) (c .append .last .0) (c .before .before .before .before .level .last .1 .0) (l .at) (c .append .ensures .0) (q .long),
+      record { more = g .more ++ (q .entries ++ (l .at ∷ [])); held = after (take (c .append .last .1 .0) (c .append .last .0)) (take (c .before .before .before .before .before .before .before .before .before .before .before .before .before .unary .last .1 .0) (c .before .before .before .before .before .before .before .before .before .before .before .before .before .unary .last .0)) (take (l .filled) (l .order)) (g .more) (q .entries ++ (l .at ∷ [])) w (g .held); goes = λ a r u. g .goes a r (joined (ended (s .args .codes .now) (s .args .n .0)) (l .low) (c .before .before .before .before .before .before .before .before .before .level-of .result - 1) (s .args .k) (a ++ g .more) (l .at) (omega (arith, c .before .before .before .before .before .before .before .before .if2 .left)) (omega (arith, c .before .before .before .before .before .before .before .before .if2 .left, c .before .before .before .before .before .before .before .if3 .left)) (s .pre .1 .2) e (q .entries) (c .before .before .before .before .level .result) (q .made) r (rw (← append-assoc a (g .more) (q .entries ++ (l .at ∷ []))) at u)) },
     )
 
 abbrev primary-claims : ℕ → primary-lts.Claims
-primary-claims t = (code-at-reads.Asked, code-at-reads.Learnt, is-primary-reads.Asked, is-primary-reads.Learnt, place-reads.Asked, place-reads.Learnt, whole-below t, whole.Post)
+primary-claims t = (code-at-reads.Asked, code-at-reads.Learnt, is-primary-reads.Asked, is-primary-reads.Learnt, append-reads.Asked, append-reads.Learnt, whole-below t, whole.Post)
 
 primary-code-at-requires : (t : ℕ) → primary-lts.Need-code-at-requires (primary-claims t) (primary-at t) primary.Post
 primary-code-at-requires t c κs =
@@ -218,13 +218,13 @@ primary-is-primary-requires : (t : ℕ) → primary-lts.Need-is-primary-requires
 primary-is-primary-requires t c κs =
     search needs
 
-primary-cast-place : (t : ℕ) → primary-lts.Need-cast-place (primary-claims t) (primary-at t) primary.Post
-primary-cast-place t c =
+primary-cast-append : (t : ℕ) → primary-lts.Need-cast-append (primary-claims t) (primary-at t) primary.Post
+primary-cast-append t c =
     let s = c .before .before .before .before .before .before in
     omega (arith, s .pre .1 .within, s .pre .1 .few)
 
-primary-place-requires : (t : ℕ) → primary-lts.Need-place-requires (primary-claims t) (primary-at t) primary.Post
-primary-place-requires t c κs =
+primary-append-requires : (t : ℕ) → primary-lts.Need-append-requires (primary-claims t) (primary-at t) primary.Post
+primary-append-requires t c κs =
     let s = c .before .before .before .before .before .before in
     let e = ap isPrimary (sym (c .before .before .before .before .before .code-at .ensures)) ∙ sym (c .before .before .before .before .is-primary .ensures) ∙ c .before .before .before .if1 .taken in
     omega (arith, primary-inside (ended (s .args .codes .now) (s .args .n .0)) (s .args .i .0) e, s .pre .1 .room, s .pre .1 .few)
@@ -239,7 +239,7 @@ primary-returns t c =
     let s = c .before .before .before .before .before .before .before .before in
     let e = ap isPrimary (sym (c .before .before .before .before .before .before .before .code-at .ensures)) ∙ sym (c .before .before .before .before .before .before .is-primary .ensures) ∙ c .before .before .before .before .before .if1 .taken in
     let l = primary-inside (ended (s .args .codes .now) (s .args .n .0)) (s .args .i .0) e in
-    found (omega (arith, l, s .pre .1 .few)) (record { entries = (s .args .i .0) ∷ []; made = primary-leaf (ended (s .args .codes .now) (s .args .n .0)) (s .args .i .0) e; held = put (s .args .order .now) (c .before .place .last .0) (take (s .args .filled .now) (s .args .order .now)) [] (s .args .filled .now) (c .before .place .last .1 .0) (s .args .i .0) (c .before .place .ensures .0) (c .before .place .ensures .1) (omega (arith, s .pre .1 .long, l, s .pre .1 .room, s .pre .1 .few)) (sym (append-nil (take (s .args .filled .now) (s .args .order .now)))); most = omega (arith, c .before .place .ensures .1); long = put-long (s .args .order .now) (c .before .place .last .0) (s .args .filled .now) (s .args .i .0) (c .before .place .ensures .0) (s .pre .1 .long) })
+    found (omega (arith, l, s .pre .1 .few)) (record { entries = (s .args .i .0) ∷ []; made = primary-leaf (ended (s .args .codes .now) (s .args .n .0)) (s .args .i .0) e; held = put (s .args .order .now) (c .before .append .last .0) (take (s .args .filled .now) (s .args .order .now)) [] (s .args .filled .now) (c .before .append .last .1 .0) (s .args .i .0) (c .before .append .ensures .0) (c .before .append .ensures .1) (omega (arith, s .pre .1 .long, l, s .pre .1 .room, s .pre .1 .few)) (sym (append-nil (take (s .args .filled .now) (s .args .order .now)))); most = omega (arith, c .before .append .ensures .1); long = put-long (s .args .order .now) (c .before .append .last .0) (s .args .filled .now) (s .args .i .0) (c .before .append .ensures .0) (s .pre .1 .long) })
 
 primary-add-result-2 : (t : ℕ) → primary-lts.Need-add-result-2 (primary-claims t) (primary-at t) primary.Post
 primary-add-result-2 t c =
@@ -299,7 +299,7 @@ primary-returns-5 t c =
     found (omega (arith, v, s .pre .1 .few)) (record { entries = p .entries; made = parentheses-closed (ended (s .args .codes .now) (s .args .n .0)) (s .args .i .0) o (p .entries) (c .before .before .before .whole .result) (p .made) (sym (c .before .code-at2 .ensures) ∙ c .if4 .left); held = p .held; most = omega (arith, p .most); long = p .long })
 
 abbrev unary-claims : ℕ → unary-lts.Claims
-unary-claims t = (run-end-reads.Asked, run-end-reads.Learnt, primary-below t, primary.Post, signs-reads.Asked, signs-reads.Learnt)
+unary-claims t = (run-end-reads.Asked, run-end-reads.Learnt, primary-below t, primary.Post, append-run-reads.Asked, append-run-reads.Learnt)
 
 unary-run-end-requires : (t : ℕ) → unary-lts.Need-run-end-requires (unary-claims t) (unary-at t) unary.Post
 unary-run-end-requires t c κs =
@@ -318,8 +318,8 @@ unary-returns t c =
     let r = c .before .before .before .before .run-end .ensures in
     handed (c .if1 .taken) (wrong (s .args .codes .now) (s .args .n .0) _ ((c .before .before .before .before .run-end .result .0) - (s .args .i .0)) (s .args .i .0) (c .before .before .before .before .run-end .result .0) (omega (arith, r .0 .from)) (r .0 .each) (unary-none (ended (s .args .codes .now) (s .args .n .0)) (c .before .before .before .before .run-end .result .0) (r .1) _ (c .before .primary .ensures .wrong (c .if1 .taken))))
 
-unary-signs-requires : (t : ℕ) → unary-lts.Need-signs-requires (unary-claims t) (unary-at t) unary.Post
-unary-signs-requires t c κs =
+unary-append-run-requires : (t : ℕ) → unary-lts.Need-append-run-requires (unary-claims t) (unary-at t) unary.Post
+unary-append-run-requires t c κs =
     let s = c .before .before .before .before .before .before .before in
     let r = c .before .before .before .before .before .before .run-end .ensures in
     let p = c .before .before .before .primary .ensures .right (c .before .before .if1 .left) in
@@ -332,11 +332,11 @@ unary-returns-2 t c =
     let r = c .before .before .before .before .before .before .before .run-end .ensures in
     let p = c .before .before .before .before .primary .ensures .right (c .before .before .before .if1 .left) in
     let v = moved (ended (s .args .codes .now) (s .args .n .0)) (p .made) (omega arith) in
-    let g = c .signs .ensures in
-    found (omega (arith, v, s .pre .1 .few)) (record { entries = p .entries ++ back ((c .before .before .before .before .before .before .before .run-end .result .0) - (s .args .i .0)) (s .args .i .0); made = applied (s .args .codes .now) (s .args .n .0) (p .entries) (c .before .before .before .before .primary .result) ((c .before .before .before .before .before .before .before .run-end .result .0) - (s .args .i .0)) (s .args .i .0) (c .before .before .before .before .before .before .before .run-end .result .0) (omega (arith, r .0 .from)) (r .0 .each) (unary-none (ended (s .args .codes .now) (s .args .n .0)) (c .before .before .before .before .before .before .before .run-end .result .0) (r .1) _ (p .made)); held = after (take (c .signs .last .1 .0) (c .signs .last .0)) (take (s .args .filled .now) (s .args .order .now)) (take (c .before .before .before .before .primary .last .1 .0) (c .before .before .before .before .primary .last .0)) (p .entries) (back ((c .before .before .before .before .before .before .before .run-end .result .0) - (s .args .i .0)) (s .args .i .0)) (g .held) (p .held); most = omega (arith, g .most, p .most, r .0 .from); long = g .long })
+    let g = c .append-run .ensures in
+    found (omega (arith, v, s .pre .1 .few)) (record { entries = p .entries ++ back ((c .before .before .before .before .before .before .before .run-end .result .0) - (s .args .i .0)) (s .args .i .0); made = applied (s .args .codes .now) (s .args .n .0) (p .entries) (c .before .before .before .before .primary .result) ((c .before .before .before .before .before .before .before .run-end .result .0) - (s .args .i .0)) (s .args .i .0) (c .before .before .before .before .before .before .before .run-end .result .0) (omega (arith, r .0 .from)) (r .0 .each) (unary-none (ended (s .args .codes .now) (s .args .n .0)) (c .before .before .before .before .before .before .before .run-end .result .0) (r .1) _ (p .made)); held = after (take (c .append-run .last .1 .0) (c .append-run .last .0)) (take (s .args .filled .now) (s .args .order .now)) (take (c .before .before .before .before .primary .last .1 .0) (c .before .before .before .before .primary .last .0)) (p .entries) (back ((c .before .before .before .before .before .before .before .run-end .result .0) - (s .args .i .0)) (s .args .i .0)) (g .held) (p .held); most = omega (arith, g .most, p .most, r .0 .from); long = g .long })
 
 abbrev whole-claims : ℕ → whole-lts.Claims
-whole-claims t = (level-below t, level.Post, code-at-reads.Asked, code-at-reads.Learnt, whole-below t, whole.Post, place-reads.Asked, place-reads.Learnt)
+whole-claims t = (level-below t, level.Post, code-at-reads.Asked, code-at-reads.Learnt, whole-below t, whole.Post, append-reads.Asked, append-reads.Learnt)
 
 whole-level-requires : (t : ℕ) → whole-lts.Need-level-requires (whole-claims t) (whole-at t) whole.Post
 whole-level-requires t c κs =
@@ -428,12 +428,12 @@ whole-returns-5 t c =
     let f = sym (c .before .before .before .before .before .code-at2 .ensures) ∙ c .before .before .before .before .if4 .left in
     handed (c .if5 .taken) (choice-bad-second (ended (s .args .codes .now) (s .args .n .0)) (s .args .i .0) (p .entries) (c .before .before .before .before .before .before .before .before .before .before .before .before .before .level .result) (p .made) e (q .entries) (c .before .before .before .before .before .before .before .whole .result) (q .made) f _ (c .before .whole2 .ensures .wrong (c .if5 .taken)))
 
-whole-cast-place : (t : ℕ) → whole-lts.Need-cast-place (whole-claims t) (whole-at t) whole.Post
-whole-cast-place t c =
+whole-cast-append : (t : ℕ) → whole-lts.Need-cast-append (whole-claims t) (whole-at t) whole.Post
+whole-cast-append t c =
     omega (arith, c .before .before .before .before .before .before .before .before .before .before .before .before .before .before .if1 .left)
 
-whole-place-requires : (t : ℕ) → whole-lts.Need-place-requires (whole-claims t) (whole-at t) whole.Post
-whole-place-requires t c κs =
+whole-append-requires : (t : ℕ) → whole-lts.Need-append-requires (whole-claims t) (whole-at t) whole.Post
+whole-append-requires t c κs =
     let s = c .before .before .before .before .before .before .before .before .before .before .before .before .before .before .before .before .before .before in
     let p = c .before .before .before .before .before .before .before .before .before .before .before .before .before .before .before .level .ensures .right (c .before .before .before .before .before .before .before .before .before .before .before .before .before .before .if1 .left) in
     let v = moved (ended (s .args .codes .now) (s .args .n .0)) (p .made) (omega arith) in
@@ -443,8 +443,8 @@ whole-place-requires t c κs =
     let y = moved (ended (s .args .codes .now) (s .args .n .0)) (x .made) tt in
     omega (arith, y, w, v, x .most, q .most, p .most, s .pre .1 .room, s .pre .1 .few)
 
-whole-place-requires-2 : (t : ℕ) → whole-lts.Need-place-requires-2 (whole-claims t) (whole-at t) whole.Post
-whole-place-requires-2 t c κs =
+whole-append-requires-2 : (t : ℕ) → whole-lts.Need-append-requires-2 (whole-claims t) (whole-at t) whole.Post
+whole-append-requires-2 t c κs =
     let s = c .before .before .before .before .before .before .before .before .before .before .before .before .before .before .before .before .before .before .before .before .before in
     let p = c .before .before .before .before .before .before .before .before .before .before .before .before .before .before .before .before .before .before .level .ensures .right (c .before .before .before .before .before .before .before .before .before .before .before .before .before .before .before .before .before .if1 .left) in
     let v = moved (ended (s .args .codes .now) (s .args .n .0)) (p .made) (omega arith) in
@@ -452,7 +452,7 @@ whole-place-requires-2 t c κs =
     let w = moved (ended (s .args .codes .now) (s .args .n .0)) (q .made) tt in
     let x = c .before .before .before .before .before .before .whole2 .ensures .right (c .before .before .before .before .before .if5 .left) in
     let y = moved (ended (s .args .codes .now) (s .args .n .0)) (x .made) tt in
-    omega (arith, c .before .before .place .ensures .1, y, w, v, x .most, q .most, p .most, s .pre .1 .room, s .pre .1 .few)
+    omega (arith, c .before .before .append .ensures .1, y, w, v, x .most, q .most, p .most, s .pre .1 .room, s .pre .1 .few)
 
 whole-returns-6 : (t : ℕ) → whole-lts.Need-returns-6 (whole-claims t) (whole-at t) whole.Post
 whole-returns-6 t c =
@@ -465,10 +465,10 @@ whole-returns-6 t c =
     let f = sym (c .before .before .before .before .before .before .before .before .before .before .before .code-at2 .ensures) ∙ c .before .before .before .before .before .before .before .before .before .before .if4 .left in
     let x = c .before .before .before .before .before .before .before .whole2 .ensures .right (c .before .before .before .before .before .before .if5 .left) in
     let y = moved (ended (s .args .codes .now) (s .args .n .0)) (x .made) tt in
-    let a = put (c .before .before .before .before .before .before .before .whole2 .last .0) (c .before .before .before .place .last .0) (take (c .before .before .before .before .before .before .before .before .before .before .before .before .before .whole .last .1 .0) (c .before .before .before .before .before .before .before .before .before .before .before .before .before .whole .last .0)) (x .entries) (c .before .before .before .before .before .before .before .whole2 .last .1 .0) (c .before .before .before .place .last .1 .0) (c .before .before .before .before .before .before .before .before .before .before .before .before .before .before .before .before .before .before .before .level .result) (c .before .before .before .place .ensures .0) (c .before .before .before .place .ensures .1) (omega (arith, x .long, y, w, v, x .most, q .most, p .most, s .pre .1 .room, s .pre .1 .few)) (x .held) in
-    let g = put-long (c .before .before .before .before .before .before .before .whole2 .last .0) (c .before .before .before .place .last .0) (c .before .before .before .before .before .before .before .whole2 .last .1 .0) (c .before .before .before .before .before .before .before .before .before .before .before .before .before .before .before .before .before .before .before .level .result) (c .before .before .before .place .ensures .0) (x .long) in
-    let b = put (c .before .before .before .place .last .0) (c .place2 .last .0) (take (c .before .before .before .before .before .before .before .before .before .before .before .before .before .whole .last .1 .0) (c .before .before .before .before .before .before .before .before .before .before .before .before .before .whole .last .0)) (x .entries ++ (c .before .before .before .before .before .before .before .before .before .before .before .before .before .before .before .before .before .before .before .level .result ∷ [])) (c .before .before .before .place .last .1 .0) (c .place2 .last .1 .0) 255 (c .place2 .ensures .0) (c .place2 .ensures .1) (omega (arith, c .before .before .before .place .ensures .1, g, y, w, v, x .most, q .most, p .most, s .pre .1 .room, s .pre .1 .few)) a in
-    found (c .before .before .before .before .before .before .if5 .left) (record { entries = p .entries ++ (q .entries ++ (x .entries ++ (c .before .before .before .before .before .before .before .before .before .before .before .before .before .before .before .before .before .before .before .level .result ∷ 255 ∷ []))); made = choice-made (ended (s .args .codes .now) (s .args .n .0)) (s .args .i .0) (p .entries) (c .before .before .before .before .before .before .before .before .before .before .before .before .before .before .before .before .before .before .before .level .result) (p .made) e (q .entries) (c .before .before .before .before .before .before .before .before .before .before .before .before .before .whole .result) (q .made) f (x .entries) (c .before .before .before .before .before .before .before .whole2 .result) (x .made); held = chosen (take (s .args .filled .now) (s .args .order .now)) (take (c .before .before .before .before .before .before .before .before .before .before .before .before .before .before .before .before .before .before .before .level .last .1 .0) (c .before .before .before .before .before .before .before .before .before .before .before .before .before .before .before .before .before .before .before .level .last .0)) (take (c .before .before .before .before .before .before .before .before .before .before .before .before .before .whole .last .1 .0) (c .before .before .before .before .before .before .before .before .before .before .before .before .before .whole .last .0)) (take (c .place2 .last .1 .0) (c .place2 .last .0)) (p .entries) (q .entries) (x .entries) (c .before .before .before .before .before .before .before .before .before .before .before .before .before .before .before .before .before .before .before .level .result) (p .held) (q .held) b; most = omega (arith, c .before .before .before .place .ensures .1, c .place2 .ensures .1, x .most, q .most, p .most); long = put-long (c .before .before .before .place .last .0) (c .place2 .last .0) (c .before .before .before .place .last .1 .0) 255 (c .place2 .ensures .0) g })
+    let a = put (c .before .before .before .before .before .before .before .whole2 .last .0) (c .before .before .before .append .last .0) (take (c .before .before .before .before .before .before .before .before .before .before .before .before .before .whole .last .1 .0) (c .before .before .before .before .before .before .before .before .before .before .before .before .before .whole .last .0)) (x .entries) (c .before .before .before .before .before .before .before .whole2 .last .1 .0) (c .before .before .before .append .last .1 .0) (c .before .before .before .before .before .before .before .before .before .before .before .before .before .before .before .before .before .before .before .level .result) (c .before .before .before .append .ensures .0) (c .before .before .before .append .ensures .1) (omega (arith, x .long, y, w, v, x .most, q .most, p .most, s .pre .1 .room, s .pre .1 .few)) (x .held) in
+    let g = put-long (c .before .before .before .before .before .before .before .whole2 .last .0) (c .before .before .before .append .last .0) (c .before .before .before .before .before .before .before .whole2 .last .1 .0) (c .before .before .before .before .before .before .before .before .before .before .before .before .before .before .before .before .before .before .before .level .result) (c .before .before .before .append .ensures .0) (x .long) in
+    let b = put (c .before .before .before .append .last .0) (c .append2 .last .0) (take (c .before .before .before .before .before .before .before .before .before .before .before .before .before .whole .last .1 .0) (c .before .before .before .before .before .before .before .before .before .before .before .before .before .whole .last .0)) (x .entries ++ (c .before .before .before .before .before .before .before .before .before .before .before .before .before .before .before .before .before .before .before .level .result ∷ [])) (c .before .before .before .append .last .1 .0) (c .append2 .last .1 .0) 255 (c .append2 .ensures .0) (c .append2 .ensures .1) (omega (arith, c .before .before .before .append .ensures .1, g, y, w, v, x .most, q .most, p .most, s .pre .1 .room, s .pre .1 .few)) a in
+    found (c .before .before .before .before .before .before .if5 .left) (record { entries = p .entries ++ (q .entries ++ (x .entries ++ (c .before .before .before .before .before .before .before .before .before .before .before .before .before .before .before .before .before .before .before .level .result ∷ 255 ∷ []))); made = choice-made (ended (s .args .codes .now) (s .args .n .0)) (s .args .i .0) (p .entries) (c .before .before .before .before .before .before .before .before .before .before .before .before .before .before .before .before .before .before .before .level .result) (p .made) e (q .entries) (c .before .before .before .before .before .before .before .before .before .before .before .before .before .whole .result) (q .made) f (x .entries) (c .before .before .before .before .before .before .before .whole2 .result) (x .made); held = chosen (take (s .args .filled .now) (s .args .order .now)) (take (c .before .before .before .before .before .before .before .before .before .before .before .before .before .before .before .before .before .before .before .level .last .1 .0) (c .before .before .before .before .before .before .before .before .before .before .before .before .before .before .before .before .before .before .before .level .last .0)) (take (c .before .before .before .before .before .before .before .before .before .before .before .before .before .whole .last .1 .0) (c .before .before .before .before .before .before .before .before .before .before .before .before .before .whole .last .0)) (take (c .append2 .last .1 .0) (c .append2 .last .0)) (p .entries) (q .entries) (x .entries) (c .before .before .before .before .before .before .before .before .before .before .before .before .before .before .before .before .before .before .before .level .result) (p .held) (q .held) b; most = omega (arith, c .before .before .before .append .ensures .1, c .append2 .ensures .1, x .most, q .most, p .most); long = put-long (c .before .before .before .append .last .0) (c .append2 .last .0) (c .before .before .before .append .last .1 .0) 255 (c .append2 .ensures .0) g })
 
 pub +level+primary+unary+whole-spec : {M : Type 1} → statement M
 +level+primary+unary+whole-spec = close μ-level μ-primary μ-unary μ-whole (λ t. level-lts.spec (
@@ -480,8 +480,8 @@ pub +level+primary+unary+whole-spec : {M : Type 1} → statement M
   level-of-reads.Learnt,
   level-below t,
   level.Post,
-  place-reads.Asked,
-  place-reads.Learnt,
+  append-reads.Asked,
+  append-reads.Learnt,
 )
     (level-at t)
     level.Post
@@ -499,8 +499,8 @@ pub +level+primary+unary+whole-spec : {M : Type 1} → statement M
     (level-add-t20 t)
     (level-level-requires t)
     (level-returns-4 t)
-    (level-cast-place t)
-    (level-place-requires t)
+    (level-cast-append t)
+    (level-append-requires t)
     (level-loop-less t)
     (level-loop-again t))
     (λ t. primary-lts.spec (
@@ -508,8 +508,8 @@ pub +level+primary+unary+whole-spec : {M : Type 1} → statement M
       code-at-reads.Learnt,
       is-primary-reads.Asked,
       is-primary-reads.Learnt,
-      place-reads.Asked,
-      place-reads.Learnt,
+      append-reads.Asked,
+      append-reads.Learnt,
       whole-below t,
       whole.Post,
     )
@@ -517,8 +517,8 @@ pub +level+primary+unary+whole-spec : {M : Type 1} → statement M
     primary.Post
     (primary-code-at-requires t)
     (primary-is-primary-requires t)
-    (primary-cast-place t)
-    (primary-place-requires t)
+    (primary-cast-append t)
+    (primary-append-requires t)
     (primary-add-result t)
     (primary-returns t)
     (primary-add-result-2 t)
@@ -536,15 +536,15 @@ pub +level+primary+unary+whole-spec : {M : Type 1} → statement M
       run-end-reads.Learnt,
       primary-below t,
       primary.Post,
-      signs-reads.Asked,
-      signs-reads.Learnt,
+      append-run-reads.Asked,
+      append-run-reads.Learnt,
     )
     (unary-at t)
     unary.Post
     (unary-run-end-requires t)
     (unary-primary-requires t)
     (unary-returns t)
-    (unary-signs-requires t)
+    (unary-append-run-requires t)
     (unary-returns-2 t))
     λ t. whole-lts.spec (
       level-below t,
@@ -553,8 +553,8 @@ pub +level+primary+unary+whole-spec : {M : Type 1} → statement M
       code-at-reads.Learnt,
       whole-below t,
       whole.Post,
-      place-reads.Asked,
-      place-reads.Learnt,
+      append-reads.Asked,
+      append-reads.Learnt,
     )
     (whole-at t)
     whole.Post
@@ -571,7 +571,7 @@ pub +level+primary+unary+whole-spec : {M : Type 1} → statement M
     (whole-add-t16-2 t)
     (whole-whole-requires-2 t)
     (whole-returns-5 t)
-    (whole-cast-place t)
-    (whole-place-requires t)
-    (whole-place-requires-2 t)
+    (whole-cast-append t)
+    (whole-append-requires t)
+    (whole-append-requires-2 t)
     (whole-returns-6 t)

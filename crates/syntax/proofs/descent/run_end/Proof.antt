@@ -33,18 +33,18 @@ add-j c =
     let r = c .before .before .before .loop .inv in
     omega (arith, r .to, c .before .before .before .before .pre .0)
 
-sign : (c : tie.Then1 Inv-loop μ-loop) → isUnary (codeAt (c .before .before .before .before .args .codes .now) (c .before .before .before .before .args .n .0) (c .before .before .before .loop .j)) ≡ true
-sign c = ap isUnary (sym (c .before .before .code-at .ensures)) ∙ sym (c .before .is-unary .ensures) ∙ c .if1 .taken
+unary : (c : tie.Then1 Inv-loop μ-loop) → isUnary (codeAt (c .before .before .before .before .args .codes .now) (c .before .before .before .before .args .n .0) (c .before .before .before .loop .j)) ≡ true
+unary c = ap isUnary (sym (c .before .before .code-at .ensures)) ∙ sym (c .before .is-unary .ensures) ∙ c .if1 .taken
 
 loop-less : tie.Need-loop-less Inv-loop μ-loop
 loop-less c =
     let s = c .before .before .before .before in
-    omega (arith, unary-inside (ended (s .args .codes .now) (s .args .n .0)) (c .before .before .before .loop .j) (sign c))
+    omega (arith, unary-inside (ended (s .args .codes .now) (s .args .n .0)) (c .before .before .before .loop .j) (unary c))
 
 loop-again : tie.Need-loop-again Inv-loop μ-loop
 loop-again c =
     let s = c .before .before .before .before in
-    longer (s .args .codes .now) (s .args .n .0) (s .args .i .0) (c .before .before .before .loop .j) (c .before .before .before .loop .inv) (sign c)
+    longer (s .args .codes .now) (s .args .n .0) (s .args .i .0) (c .before .before .before .loop .j) (c .before .before .before .loop .inv) (unary c)
 
 returns : tie.Need-returns Inv-loop μ-loop
 returns c = (c .before .before .before .loop .inv, ap isUnary (sym (c .before .before .code-at .ensures)) ∙ sym (c .before .is-unary .ensures) ∙ c .if1 .left)

@@ -4,8 +4,8 @@ use native.Mathlib.Omega.{arith}
 use borrow.Author.Needs.{needs}
 use Rattle.grammar.proofs.Steps.{moved}
 use Rattle.syntax.proofs.Orders.{ended}
-use Rattle.syntax.proofs.descent.write.Statement.{statement}
-use Rattle.syntax.proofs.descent.write.Tie as tie
+use Rattle.syntax.proofs.descent.write_postfix.Statement.{statement}
+use Rattle.syntax.proofs.descent.write_postfix.Tie as tie
 
 whole-requires : tie.Need-whole-requires
 whole-requires c κs = search needs
@@ -24,5 +24,5 @@ returns-2 c =
       long = found .long;
     }
 
-pub write-spec : {M : Type 1} → statement M
-write-spec = tie.close (tie.spec whole-requires returns returns-2)
+pub write-postfix-spec : {M : Type 1} → statement M
+write-postfix-spec = tie.close (tie.spec whole-requires returns returns-2)
