@@ -51,11 +51,11 @@ loop-again c =
     let some : 0 < loop .at = omega (arith, test) in
     let room : loop .filled < length (loop .order) = omega (arith, loop .inv .2, loop .inv .3, start .pre .2, test, loop .inv .1) in
     let written = take (start .args .filled .now) (start .args .order .now) in
-    let held = put (loop .order) _ written (back (last - loop .at) (loop .at)) (loop .filled) _ _ set one-more room (loop .inv .4) in (
+    let held = put (loop .order) written (back (last - loop .at) (loop .at)) (loop .filled) _ set one-more room (loop .inv .4) in (
       omega (arith, test),
       omega (arith, loop .inv .1),
       omega (arith, one-more, loop .inv .2, loop .inv .1, some),
-      put-long (loop .order) _ (loop .filled) _ set (loop .inv .3),
+      put-long (loop .order) (loop .filled) _ set (loop .inv .3),
       rw (sooner last (loop .at) some (loop .inv .1)) held,
     )
 

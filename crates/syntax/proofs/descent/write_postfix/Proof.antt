@@ -2,8 +2,7 @@
 use Prim.Native.Nat.{_≤_}
 use native.Mathlib.Omega.{arith}
 use borrow.Author.Needs.{needs}
-use Rattle.grammar.proofs.Steps.{moved}
-use Rattle.syntax.proofs.Orders.{ended}
+use Rattle.syntax.proofs.Orders.{passed}
 use Rattle.syntax.proofs.descent.write_postfix.Statement.{statement}
 use Rattle.syntax.proofs.descent.write_postfix.Tie as tie
 
@@ -11,16 +10,19 @@ whole-requires : tie.Need-whole-requires
 whole-requires c κs = search needs
 
 returns : tie.Need-returns
-returns c = c .before .whole .ensures .wrong (c .if1 .taken)
+returns c =
+    let test = c .before in
+    test .before .before .whole .ensures .wrong (test .if1 .taken)
 
 returns-2 : tie.Need-returns-2
 returns-2 c =
-    let start = c .before .before .before .before in
-    let found = c .before .whole .ensures .right (c .if1 .left) in
-    let passed = moved (ended (start .args .codes .now) (start .args .n .0)) (found .made) tt in
+    let whole = c .before .before in
+    let start = whole .before .before .before in
+    let found = whole .whole .ensures .right (c .if1 .left) in
+    let past = passed found tt in
     record {
       made = rw (← found .held) at (found .made);
-      most = omega (arith, found .most, passed, start .pre .0);
+      most = omega (arith, found .most, past, start .pre .0);
       long = found .long;
     }
 
