@@ -119,7 +119,8 @@ module _ (i : Input) (most : ℕ) (few : i .n ≤ 200) where
             (rw j (record { a = a; b = b; rest = s; shape = refl; few = omega (arith, y, z, g, m .count, w .count); next = u }))));
       }
 
-  choice : (q : ℕ) → codeIn i q ≡ QUESTION → (l : List ℕ) (c : Attributes) → Makes l c → (r : List ℕ) (a : Attributes) → Makes r a → (d : List ℕ) (b : Attributes) → Makes d b
+  choice : (q : ℕ) → codeIn i q ≡ QUESTION → (l : List ℕ) (c : Attributes) → Makes l c → (r : List ℕ) (a : Attributes) → Makes r a
+      → (d : List ℕ) (b : Attributes) → Makes d b
       → Makes (l ++ (r ++ (d ++ (q ∷ FILLER ∷ [])))) (choiceFrom c a b)
   choice q f l c m r a w d b x =
       let inside = code-inside (ended (i .codes) (i .n)) q QUESTION (omega arith) f in
@@ -139,7 +140,16 @@ module _ (i : Input) (most : ℕ) (few : i .n ≤ 200) where
             (m .runs s (r ++ (d ++ (q ∷ FILLER ∷ k))) v (omega (arith, p)) (omega (arith, y, g))
             (w .runs (c ∷ s) (d ++ (q ∷ FILLER ∷ k)) v (omega (arith, p, m .some)) (omega (arith, y, z, g))
             (x .runs (a ∷ c ∷ s) (q ∷ FILLER ∷ k) v (omega (arith, p, m .some, w .some)) (omega (arith, y, z, y′, g))
-            (rw j (record { c = c; a = a; b = b; rest = s; shape = refl; few = omega (arith, y, z, y′, g, m .count, w .count, x .count); next = rw idle u })))));
+            (rw j
+            (record {
+              c = c;
+              a = a;
+              b = b;
+              rest = s;
+              shape = refl;
+              few = omega (arith, y, z, y′, g, m .count, w .count, x .count);
+              next = rw idle u;
+            })))));
       }
 
   -- results of the two parsers that belong together

@@ -103,7 +103,9 @@ module _ (t : ℕ) where
       → let loop = operator .before .before .before .before in
       let start = loop .before .before .before .before .before .before in
       levelOf (codeAt (start .args .codes .now) (start .args .n .0) (loop .loop .at)) ≡ suc (operator .before .before .level-of .result - 1)
-  follows operator = omega (arith, read (operator .before .before .before .code-at .ensures) (operator .before .before .level-of .ensures), operator .before .if2 .left)
+  follows operator =
+      let level = operator .before .before in
+      omega (arith, read (level .before .code-at .ensures) (level .level-of .ensures), operator .before .if2 .left)
 
   level-unary-requires : level-lts.Need-unary-requires (level-claims t) (level-at t) level.Post level-Inv-loop level-μ-loop
   level-unary-requires c κs =
@@ -354,7 +356,8 @@ module _ (t : ℕ) where
       let codes = start .args .codes .now in
       let part = inner .before .before .whole .ensures .right (inner .if3 .left) in
       faulty _
-      (parentheses-open (ended codes _) _ (is-open opened) (part .entries) _ (part .made) (λ z. c .before .if4 .taken (c .before .before .code-at2 .ensures ∙ z)))
+      (parentheses-open (ended codes _) _ (is-open opened) (part .entries) _ (part .made)
+      (λ z. c .before .if4 .taken (c .before .before .code-at2 .ensures ∙ z)))
 
   primary-add-t18-2 : primary-lts.Need-add-t18-2 (primary-claims t) (primary-at t) primary.Post
   primary-add-t18-2 c =
@@ -578,7 +581,8 @@ module _ (t : ℕ) where
 
   whole-cast-append : whole-lts.Need-cast-append (whole-claims t) (whole-at t) whole.Post
   whole-cast-append c =
-      let condition = c .before .before .before .before .before .before .before .before .before .before .before .before .before .before .before .before .before .before .before in
+      let second = c .before .before .before in
+      let condition = second .before .before .before .before .before .before .before .before .before .before .before .before .before .before .before .before in
       omega (arith, condition .if1 .left)
 
   -- there is room for the two entries of a choice
@@ -631,7 +635,8 @@ module _ (t : ℕ) where
       found (second .if5 .left)
       (record {
         entries = part .entries ++ (arm .entries ++ (other .entries ++ (q ∷ FILLER ∷ [])));
-        made = choice-made (ended codes _) _ (part .entries) q (part .made) (is-question question) (arm .entries) _ (arm .made) (is-colon colon) _ _ (other .made);
+        made = choice-made (ended codes _) _ (part .entries) q (part .made) (is-question question) (arm .entries) _ (arm .made) (is-colon colon) _ _
+            (other .made);
         held = chosen (take (start .args .filled .now) (start .args .order .now)) after-condition after-first (part .entries) (arm .entries) (other .entries) q
             (part .held) (arm .held) full;
         most = omega (arith, entry .1, filler .1, other .most, arm .most, part .most);
