@@ -32,9 +32,7 @@ fn run_end(codes: &[u8; 200], n: TokenNumber, i: TokenNumber) -> TokenNumber
     TokenNumber(j)
 }
 
-// The number of the token after a part of the expression; or, with BAD more, of the token at which it goes wrong.
-struct Reached(pub usize);
-
+// A fault at a token is answered as its number with this much more, which no token has.
 const BAD: usize = 256;
 
 // Adds an entry to the order.
@@ -68,29 +66,29 @@ fn whole(
     codes: &[u8; 200],
     n: TokenNumber,
     i: TokenNumber,
-) -> Reached
+) -> usize
     requires { ⌜ Fit (n .0) (i .0) (now filled) (now order) ⌝ }
-    ensures { λ r. ⌜ Appends (now (codes .entry)) (n .0) (find wholeAt (i .0)) (i .0) (now (filled .entry)) (now (order .entry)) (r .0) (now (filled .exit)) (now (order .exit)) ⌝ }
+    ensures { λ r. ⌜ Appends (now (codes .entry)) (n .0) (find wholeAt (i .0)) (i .0) (now (filled .entry)) (now (order .entry)) r (now (filled .exit)) (now (order .exit)) ⌝ }
 {
     let c = level(order, filled, codes, n, 12, i);
-    if BAD <= c.0 {
+    if BAD <= c {
         return c;
     }
-    if tokens::code_at(codes, n, TokenNumber(c.0)) != codes::QUESTION {
+    if tokens::code_at(codes, n, TokenNumber(c)) != codes::QUESTION {
         return c;
     }
-    let a = whole(order, filled, codes, n, TokenNumber(c.0 + 1));
-    if BAD <= a.0 {
+    let a = whole(order, filled, codes, n, TokenNumber(c + 1));
+    if BAD <= a {
         return a;
     }
-    if tokens::code_at(codes, n, TokenNumber(a.0)) != codes::COLON {
-        return Reached(BAD + a.0);
+    if tokens::code_at(codes, n, TokenNumber(a)) != codes::COLON {
+        return BAD + a;
     }
-    let b = whole(order, filled, codes, n, TokenNumber(a.0 + 1));
-    if BAD <= b.0 {
+    let b = whole(order, filled, codes, n, TokenNumber(a + 1));
+    if BAD <= b {
         return b;
     }
-    append(order, filled, c.0 as u16);
+    append(order, filled, c as u16);
     append(order, filled, tokens::FILLER);
     b
 }
@@ -105,32 +103,31 @@ fn level(
     n: TokenNumber,
     k: usize,
     i: TokenNumber,
-) -> Reached
+) -> usize
     requires { ⌜ Fit (n .0) (i .0) (now filled) (now order) × (1 ≤ k) × (k ≤ 12) ⌝ }
-    ensures { λ r. ⌜ Appends (now (codes .entry)) (n .0) (find (levelAt k) (i .0)) (i .0) (now (filled .entry)) (now (order .entry)) (r .0) (now (filled .exit)) (now (order .exit)) ⌝ }
+    ensures { λ r. ⌜ Appends (now (codes .entry)) (n .0) (find (levelAt k) (i .0)) (i .0) (now (filled .entry)) (now (order .entry)) r (now (filled .exit)) (now (order .exit)) ⌝ }
 {
-    let first = unary(order, filled, codes, n, i);
-    if BAD <= first.0 {
-        return first;
+    let mut at = unary(order, filled, codes, n, i);
+    if BAD <= at {
+        return at;
     }
-    let mut at = first.0;
     let mut low: usize = 1;
     loop {
         let o = tokens::code_at(codes, n, TokenNumber(at));
         let l = tokens::level_of(o) as usize;
         if l <= low {
-            return Reached(at);
+            return at;
         }
         if k < l {
-            return Reached(at);
+            return at;
         }
         low = l - 1;
         let next = level(order, filled, codes, n, low, TokenNumber(at + 1));
-        if BAD <= next.0 {
+        if BAD <= next {
             return next;
         }
         append(order, filled, at as u16);
-        at = next.0;
+        at = next;
     }
 }
 
@@ -141,13 +138,13 @@ fn unary(
     codes: &[u8; 200],
     n: TokenNumber,
     i: TokenNumber,
-) -> Reached
+) -> usize
     requires { ⌜ Fit (n .0) (i .0) (now filled) (now order) ⌝ }
-    ensures { λ r. ⌜ Appends (now (codes .entry)) (n .0) (find (levelAt 1) (i .0)) (i .0) (now (filled .entry)) (now (order .entry)) (r .0) (now (filled .exit)) (now (order .exit)) ⌝ }
+    ensures { λ r. ⌜ Appends (now (codes .entry)) (n .0) (find (levelAt 1) (i .0)) (i .0) (now (filled .entry)) (now (order .entry)) r (now (filled .exit)) (now (order .exit)) ⌝ }
 {
     let j = run_end(codes, n, i);
     let next = primary(order, filled, codes, n, j);
-    if BAD <= next.0 {
+    if BAD <= next {
         return next;
     }
     append_run(order, filled, i, j);
@@ -160,26 +157,26 @@ fn primary(
     codes: &[u8; 200],
     n: TokenNumber,
     i: TokenNumber,
-) -> Reached
+) -> usize
     requires { ⌜ Fit (n .0) (i .0) (now filled) (now order) ⌝ }
-    ensures { λ r. ⌜ Appends (now (codes .entry)) (n .0) (find (levelAt 0) (i .0)) (i .0) (now (filled .entry)) (now (order .entry)) (r .0) (now (filled .exit)) (now (order .exit)) ⌝ }
+    ensures { λ r. ⌜ Appends (now (codes .entry)) (n .0) (find (levelAt 0) (i .0)) (i .0) (now (filled .entry)) (now (order .entry)) r (now (filled .exit)) (now (order .exit)) ⌝ }
 {
     let o = tokens::code_at(codes, n, i);
     if tokens::is_primary(o) {
         append(order, filled, i.0 as u16);
-        return Reached(i.0 + 1);
+        return i.0 + 1;
     }
     if o != codes::OPEN {
-        return Reached(BAD + i.0);
+        return BAD + i.0;
     }
     let a = whole(order, filled, codes, n, TokenNumber(i.0 + 1));
-    if BAD <= a.0 {
+    if BAD <= a {
         return a;
     }
-    if tokens::code_at(codes, n, TokenNumber(a.0)) != codes::CLOSE {
-        return Reached(BAD + a.0);
+    if tokens::code_at(codes, n, TokenNumber(a)) != codes::CLOSE {
+        return BAD + a;
     }
-    Reached(a.0 + 1)
+    a + 1
 }
 
 // Writes the order of the expression that starts at the first token.
@@ -189,8 +186,8 @@ pub fn write_postfix(order: &mut [u16; 200], codes: &[u8; 200], n: TokenNumber) 
 {
     let mut filled: usize = 0;
     let r = whole(order, &mut filled, codes, n, TokenNumber(0));
-    if BAD <= r.0 {
-        return Postfix::Bad(TokenNumber(r.0 - BAD));
+    if BAD <= r {
+        return Postfix::Bad(TokenNumber(r - BAD));
     }
-    Postfix::Order(filled, TokenNumber(r.0))
+    Postfix::Order(filled, TokenNumber(r))
 }

@@ -101,7 +101,7 @@ module _ (t : ℕ) where
   -- the level of the operator that follows
   follows : (operator : level-lts.Else3 (level-claims t) (level-at t) level.Post level-Inv-loop level-μ-loop)
       → let loop = operator .before .before .before .before in
-      let start = loop .before .before .before .before .before .before in
+      let start = loop .before .before .before .before .before in
       levelOf (codeAt (start .args .codes .now) (start .args .n .0) (loop .loop .at)) ≡ suc (operator .before .before .level-of .result - 1)
   follows operator =
       let level = operator .before .before in
@@ -114,20 +114,20 @@ module _ (t : ℕ) where
 
   level-returns : level-lts.Need-returns (level-claims t) (level-at t) level.Post level-Inv-loop level-μ-loop
   level-returns c =
-      let start = c .before .before .before .before .before in
+      let start = c .before .before .before .before in
       let codes = start .args .codes .now in
-      let bad = c .before .before .unary .ensures .wrong (c .if1 .taken) in
+      let bad = c .before .unary .ensures .wrong (c .if1 .taken) in
       handed (c .if1 .taken) (found-bad (ended codes _) _ (start .args .k - 1) 1 _ (omega (arith, start .pre .1 .1)) (omega arith) _ bad)
 
   level-loop-holds : level-lts.Need-loop-holds (level-claims t) (level-at t) level.Post level-Inv-loop level-μ-loop
   level-loop-holds operand =
-      let start = operand .before .before .before .before .before in
-      let first = operand .before .before .unary .ensures .right (operand .if1 .left) in
+      let start = operand .before .before .before .before in
+      let first = operand .before .unary .ensures .right (operand .if1 .left) in
       begun (start .pre .1 .1) (passed first (omega arith) .1) (first .long)
 
   level-code-at-requires : level-lts.Need-code-at-requires (level-claims t) (level-at t) level.Post level-Inv-loop level-μ-loop
   level-code-at-requires loop κs =
-      let start = loop .before .before .before .before .before .before in
+      let start = loop .before .before .before .before .before in
       start .pre .1 .0 .few
 
   level-level-of-requires : level-lts.Need-level-of-requires (level-claims t) (level-at t) level.Post level-Inv-loop level-μ-loop
@@ -140,8 +140,8 @@ module _ (t : ℕ) where
   level-returns-2 c =
       let loop = c .before .before .before in
       let operand = loop .before in
-      let start = operand .before .before .before .before .before in
-      let first = operand .before .before .unary .ensures .right (operand .if1 .left) in
+      let start = operand .before .before .before .before in
+      let first = operand .before .unary .ensures .right (operand .if1 .left) in
       let here = read (c .before .before .code-at .ensures) (c .before .level-of .ensures) in
       stays (start .pre .1 .2) first (loop .loop .inv) (start .pre .1 .0) (λ x f h q. omega (arith, q, here, c .if2 .taken))
 
@@ -149,18 +149,18 @@ module _ (t : ℕ) where
   level-returns-3 c =
       let loop = c .before .before .before .before in
       let operand = loop .before in
-      let start = operand .before .before .before .before .before in
-      let first = operand .before .before .unary .ensures .right (operand .if1 .left) in
+      let start = operand .before .before .before .before in
+      let first = operand .before .unary .ensures .right (operand .if1 .left) in
       let here = read (c .before .before .before .code-at .ensures) (c .before .before .level-of .ensures) in
       stays (start .pre .1 .2) first (loop .loop .inv) (start .pre .1 .0) (λ x f h q. omega (arith, q, here, c .if3 .taken))
 
   level-sub-low : level-lts.Need-sub-low (level-claims t) (level-at t) level.Post level-Inv-loop level-μ-loop
   level-sub-low operator = omega (arith, operator .before .if2 .left)
 
-  level-add-t21 : level-lts.Need-add-t21 (level-claims t) (level-at t) level.Post level-Inv-loop level-μ-loop
-  level-add-t21 c =
+  level-add-t20 : level-lts.Need-add-t20 (level-claims t) (level-at t) level.Post level-Inv-loop level-μ-loop
+  level-add-t20 c =
       let loop = c .before .before .before .before .before .before in
-      let start = loop .before .before .before .before .before .before in
+      let start = loop .before .before .before .before .before in
       omega (arith, loop .loop .inv .within, start .pre .1 .0 .few)
 
   level-level-requires : level-lts.Need-level-requires (level-claims t) (level-at t) level.Post level-Inv-loop level-μ-loop
@@ -168,8 +168,8 @@ module _ (t : ℕ) where
       let operator = c .before .before in
       let loop = operator .before .before .before .before in
       let operand = loop .before in
-      let start = operand .before .before .before .before .before in
-      let first = operand .before .before .unary .ensures .right (operand .if1 .left) in
+      let start = operand .before .before .before .before in
+      let first = operand .before .unary .ensures .right (operand .if1 .left) in
       let grown = loop .loop .inv in
       let top = start .pre .1 .2 in
       let below = operator .if3 .left in
@@ -181,31 +181,31 @@ module _ (t : ℕ) where
 
   level-returns-4 : level-lts.Need-returns-4 (level-claims t) (level-at t) level.Post level-Inv-loop level-μ-loop
   level-returns-4 c =
-      let operator = c .before .before .before .before .before in
+      let operator = c .before .before .before .before in
       let loop = operator .before .before .before .before in
       let operand = loop .before in
-      let start = operand .before .before .before .before .before in
-      let first = operand .before .before .unary .ensures .right (operand .if1 .left) in
+      let start = operand .before .before .before .before in
+      let first = operand .before .unary .ensures .right (operand .if1 .left) in
       let above = operator .before .if2 .left in
       let below = operator .if3 .left in
-      let bad = c .before .before .level .ensures .wrong (c .if4 .taken) in
+      let bad = c .before .level .ensures .wrong (c .if4 .taken) in
       handed (c .if4 .taken) (refused (start .pre .1 .2) first (loop .loop .inv) (omega (arith, above)) (omega (arith, above, below)) (follows operator) _ bad)
 
   level-cast-append : level-lts.Need-cast-append (level-claims t) (level-at t) level.Post level-Inv-loop level-μ-loop
   level-cast-append c =
-      let loop = c .before .before .before .before .before .before .before .before .before .before .before in
-      let start = loop .before .before .before .before .before .before in
+      let loop = c .before .before .before .before .before .before .before .before .before .before in
+      let start = loop .before .before .before .before .before in
       omega (arith, loop .loop .inv .within, start .pre .1 .0 .few)
 
   -- there is room for the entry of the operator
-  level-room : (right : level-lts.Else4 (level-claims t) (level-at t) level.Post level-Inv-loop level-μ-loop) → right .before .before .level .last .1 .0 < 200
+  level-room : (right : level-lts.Else4 (level-claims t) (level-at t) level.Post level-Inv-loop level-μ-loop) → right .before .level .last .1 .0 < 200
   level-room right =
-      let operator = right .before .before .before .before .before in
+      let operator = right .before .before .before .before in
       let loop = operator .before .before .before .before in
       let operand = loop .before in
-      let start = operand .before .before .before .before .before in
-      let first = operand .before .before .unary .ensures .right (operand .if1 .left) in
-      let second = right .before .before .level .ensures .right (right .if4 .left) in
+      let start = operand .before .before .before .before in
+      let first = operand .before .unary .ensures .right (operand .if1 .left) in
+      let second = right .before .level .ensures .right (right .if4 .left) in
       let on = passed second (omega (arith, operator .if3 .left, start .pre .1 .2)) in
       omega (arith, second .most, on, loop .loop .inv .most, first .most, start .pre .1 .0 .room, start .pre .1 .0 .few)
 
@@ -215,20 +215,20 @@ module _ (t : ℕ) where
   level-loop-less : level-lts.Need-loop-less (level-claims t) (level-at t) level.Post level-Inv-loop level-μ-loop
   level-loop-less c =
       let right = c .before .before .before in
-      let operator = right .before .before .before .before .before in
-      let start = operator .before .before .before .before .before .before .before .before .before .before in
-      let second = right .before .before .level .ensures .right (right .if4 .left) in
+      let operator = right .before .before .before .before in
+      let start = operator .before .before .before .before .before .before .before .before .before in
+      let second = right .before .level .ensures .right (right .if4 .left) in
       omega (arith, passed second (omega (arith, operator .if3 .left, start .pre .1 .2)))
 
   level-loop-again : level-lts.Need-loop-again (level-claims t) (level-at t) level.Post level-Inv-loop level-μ-loop
   level-loop-again c =
       let right = c .before .before .before in
-      let operator = right .before .before .before .before .before in
+      let operator = right .before .before .before .before in
       let loop = operator .before .before .before .before in
       let operand = loop .before in
-      let start = operand .before .before .before .before .before in
-      let first = operand .before .before .unary .ensures .right (operand .if1 .left) in
-      let second = right .before .before .level .ensures .right (right .if4 .left) in
+      let start = operand .before .before .before .before in
+      let first = operand .before .unary .ensures .right (operand .if1 .left) in
+      let second = right .before .level .ensures .right (right .if4 .left) in
       let above = operator .before .if2 .left in
       let below = operator .if3 .left in
       let entry = c .append .ensures in
@@ -278,8 +278,8 @@ module _ (t : ℕ) where
       let inside = primary-inside (ended (start .args .codes .now) (start .args .n .0)) _ (is-leaf leaf) in
       omega (arith, inside, start .pre .1 .room, start .pre .1 .few)
 
-  primary-add-t13 : primary-lts.Need-add-t13 (primary-claims t) (primary-at t) primary.Post
-  primary-add-t13 c =
+  primary-add-result : primary-lts.Need-add-result (primary-claims t) (primary-at t) primary.Post
+  primary-add-result c =
       let start = c .before .before .before .before .before .before .before .before in
       omega (arith, start .pre .1 .within, start .pre .1 .few)
 
@@ -304,8 +304,8 @@ module _ (t : ℕ) where
         long = put-long order filled _ (append .ensures .0) (fit .long);
       })
 
-  primary-add-t15 : primary-lts.Need-add-t15 (primary-claims t) (primary-at t) primary.Post
-  primary-add-t15 c =
+  primary-add-result-2 : primary-lts.Need-add-result-2 (primary-claims t) (primary-at t) primary.Post
+  primary-add-result-2 c =
       let start = c .before .before .before .before .before in
       omega (arith, start .pre .1 .within, start .pre .1 .few)
 
@@ -318,8 +318,8 @@ module _ (t : ℕ) where
       let other = ap isPrimary (sym code) ∙ sym (test .before .is-primary .ensures) ∙ test .if1 .left in
       faulty _ (primary-none (ended codes _) _ other (λ z. c .before .if2 .taken (code ∙ z)))
 
-  primary-add-t18 : primary-lts.Need-add-t18 (primary-claims t) (primary-at t) primary.Post
-  primary-add-t18 c =
+  primary-add-t16 : primary-lts.Need-add-t16 (primary-claims t) (primary-at t) primary.Post
+  primary-add-t16 c =
       let start = c .before .before .before .before .before .before .before in
       omega (arith, start .pre .1 .within, start .pre .1 .few)
 
@@ -333,45 +333,45 @@ module _ (t : ℕ) where
 
   primary-returns-3 : primary-lts.Need-returns-3 (primary-claims t) (primary-at t) primary.Post
   primary-returns-3 c =
-      let opened = c .before .before .before .before .before .before in
+      let opened = c .before .before .before .before .before in
       let start = opened .before .before .before .before in
       let codes = start .args .codes .now in
-      handed (c .if3 .taken) (parentheses-bad (ended codes _) _ (is-open opened) _ (c .before .before .whole .ensures .wrong (c .if3 .taken)))
+      handed (c .if3 .taken) (parentheses-bad (ended codes _) _ (is-open opened) _ (c .before .whole .ensures .wrong (c .if3 .taken)))
 
   primary-code-at-requires-2 : primary-lts.Need-code-at-requires-2 (primary-claims t) (primary-at t) primary.Post
   primary-code-at-requires-2 inner κs =
-      let start = inner .before .before .before .before .before .before .before .before .before .before in
+      let start = inner .before .before .before .before .before .before .before .before .before in
       start .pre .1 .few
 
-  primary-add-t21 : primary-lts.Need-add-t21 (primary-claims t) (primary-at t) primary.Post
-  primary-add-t21 c =
-      let inner = c .before .before .before in
+  primary-add-result-3 : primary-lts.Need-add-result-3 (primary-claims t) (primary-at t) primary.Post
+  primary-add-result-3 c =
+      let inner = c .before .before in
       omega (arith, inner .if3 .left)
 
   primary-returns-4 : primary-lts.Need-returns-4 (primary-claims t) (primary-at t) primary.Post
   primary-returns-4 c =
-      let inner = c .before .before .before in
-      let opened = inner .before .before .before .before .before .before in
+      let inner = c .before .before in
+      let opened = inner .before .before .before .before .before in
       let start = opened .before .before .before .before in
       let codes = start .args .codes .now in
-      let part = inner .before .before .whole .ensures .right (inner .if3 .left) in
+      let part = inner .before .whole .ensures .right (inner .if3 .left) in
       faulty _
       (parentheses-open (ended codes _) _ (is-open opened) (part .entries) _ (part .made)
-      (λ z. c .before .if4 .taken (c .before .before .code-at2 .ensures ∙ z)))
+      (λ z. c .if4 .taken (c .before .code-at2 .ensures ∙ z)))
 
-  primary-add-t18-2 : primary-lts.Need-add-t18-2 (primary-claims t) (primary-at t) primary.Post
-  primary-add-t18-2 c =
-      let inner = c .before .before .before in
+  primary-add-result-4 : primary-lts.Need-add-result-4 (primary-claims t) (primary-at t) primary.Post
+  primary-add-result-4 c =
+      let inner = c .before .before in
       omega (arith, inner .if3 .left)
 
   primary-returns-5 : primary-lts.Need-returns-5 (primary-claims t) (primary-at t) primary.Post
   primary-returns-5 c =
-      let inner = c .before .before .before in
-      let opened = inner .before .before .before .before .before .before in
+      let inner = c .before .before in
+      let opened = inner .before .before .before .before .before in
       let start = opened .before .before .before .before in
       let codes = start .args .codes .now in
-      let part = inner .before .before .whole .ensures .right (inner .if3 .left) in
-      let closed = sym (c .before .before .code-at2 .ensures) ∙ c .before .if4 .left in
+      let part = inner .before .whole .ensures .right (inner .if3 .left) in
+      let closed = sym (c .before .code-at2 .ensures) ∙ c .if4 .left in
       found (omega (arith, passed part tt, start .pre .1 .few))
       (record {
         entries = part .entries;
@@ -400,21 +400,21 @@ module _ (t : ℕ) where
 
   unary-returns : unary-lts.Need-returns (unary-claims t) (unary-at t) unary.Post
   unary-returns c =
-      let run = c .before .before .before .before .before in
+      let run = c .before .before .before .before in
       let start = run .before in
       let codes = start .args .codes .now in
       let last = run .run-end .result .0 in
       let passes = run .run-end .ensures .0 in
-      let bad = unary-none (ended codes _) last (run .run-end .ensures .1) _ (c .before .before .primary .ensures .wrong (c .if1 .taken)) in
+      let bad = unary-none (ended codes _) last (run .run-end .ensures .1) _ (c .before .primary .ensures .wrong (c .if1 .taken)) in
       handed (c .if1 .taken) (wrong codes _ _ (last - start .args .i .0) _ last (omega (arith, passes .from)) (passes .each) bad)
 
   unary-append-run-requires : unary-lts.Need-append-run-requires (unary-claims t) (unary-at t) unary.Post
   unary-append-run-requires c κs =
       let operand = c .before .before in
-      let run = operand .before .before .before .before .before in
+      let run = operand .before .before .before .before in
       let fit = run .before .pre .1 in
       let passes = run .run-end .ensures .0 in
-      let part = operand .before .before .primary .ensures .right (operand .if1 .left) in (
+      let part = operand .before .primary .ensures .right (operand .if1 .left) in (
         passes .from,
         omega (arith, passes .to, fit .few),
         omega (arith, part .most, fit .room, fit .few, passed part (omega arith), passes .from),
@@ -424,13 +424,13 @@ module _ (t : ℕ) where
   unary-returns-2 : unary-lts.Need-returns-2 (unary-claims t) (unary-at t) unary.Post
   unary-returns-2 c =
       let operand = c .before .before .before in
-      let run = operand .before .before .before .before .before in
+      let run = operand .before .before .before .before in
       let start = run .before in
       let codes = start .args .codes .now in
       let first = start .args .i .0 in
       let last = run .run-end .result .0 in
       let passes = run .run-end .ensures .0 in
-      let part = operand .before .before .primary .ensures .right (operand .if1 .left) in
+      let part = operand .before .primary .ensures .right (operand .if1 .left) in
       let own = unary-none (ended codes _) last (run .run-end .ensures .1) _ (part .made) in
       let added = c .append-run .ensures in
       found (omega (arith, passed part (omega arith), start .pre .1 .few))
@@ -458,13 +458,13 @@ whole-claims t = (
 -- arm was found, `colon` at a `:` after it, and `second` where the second arm was found
 module _ (t : ℕ) where
   is-question : (question : whole-lts.Else2 (whole-claims t) (whole-at t) whole.Post)
-      → let start = question .before .before .before .before .before .before .before in
-      codeAt (start .args .codes .now) (start .args .n .0) (question .before .before .before .before .level .result .0) ≡ QUESTION
+      → let start = question .before .before .before .before .before .before in
+      codeAt (start .args .codes .now) (start .args .n .0) (question .before .before .before .level .result) ≡ QUESTION
   is-question question = sym (question .before .code-at .ensures) ∙ question .if2 .left
 
   is-colon : (colon : whole-lts.Else4 (whole-claims t) (whole-at t) whole.Post)
-      → let start = colon .before .before .before .before .before .before .before .before .before .before .before .before .before .before .before in
-      codeAt (start .args .codes .now) (start .args .n .0) (colon .before .before .before .before .whole .result .0) ≡ COLON
+      → let start = colon .before .before .before .before .before .before .before .before .before .before .before .before in
+      codeAt (start .args .codes .now) (start .args .n .0) (colon .before .before .before .whole .result) ≡ COLON
   is-colon colon = sym (colon .before .code-at2 .ensures) ∙ colon .if4 .left
 
   whole-level-requires : whole-lts.Need-level-requires (whole-claims t) (whole-at t) whole.Post
@@ -474,21 +474,21 @@ module _ (t : ℕ) where
 
   whole-returns : whole-lts.Need-returns (whole-claims t) (whole-at t) whole.Post
   whole-returns c =
-      let start = c .before .before .before .before .before in
+      let start = c .before .before .before .before in
       let codes = start .args .codes .now in
-      handed (c .if1 .taken) (expression-bad (ended codes _) _ _ (c .before .before .level .ensures .wrong (c .if1 .taken)))
+      handed (c .if1 .taken) (expression-bad (ended codes _) _ _ (c .before .level .ensures .wrong (c .if1 .taken)))
 
   whole-code-at-requires : whole-lts.Need-code-at-requires (whole-claims t) (whole-at t) whole.Post
   whole-code-at-requires condition κs =
-      let start = condition .before .before .before .before .before in
+      let start = condition .before .before .before .before in
       start .pre .1 .few
 
   whole-returns-2 : whole-lts.Need-returns-2 (whole-claims t) (whole-at t) whole.Post
   whole-returns-2 c =
       let condition = c .before .before in
-      let start = condition .before .before .before .before .before in
+      let start = condition .before .before .before .before in
       let codes = start .args .codes .now in
-      let part = condition .before .before .level .ensures .right (condition .if1 .left) in
+      let part = condition .before .level .ensures .right (condition .if1 .left) in
       found (condition .if1 .left)
       (record {
         entries = part .entries;
@@ -500,65 +500,65 @@ module _ (t : ℕ) where
 
   whole-add-t16 : whole-lts.Need-add-t16 (whole-claims t) (whole-at t) whole.Post
   whole-add-t16 c =
-      let condition = c .before .before .before .before .before in
+      let condition = c .before .before .before .before in
       omega (arith, condition .if1 .left)
 
   whole-whole-requires : whole-lts.Need-whole-requires (whole-claims t) (whole-at t) whole.Post
   whole-whole-requires c κs =
-      let question = c .before .before .before in
+      let question = c .before .before in
       let condition = question .before .before in
-      let start = condition .before .before .before .before .before in
-      let part = condition .before .before .level .ensures .right (condition .if1 .left) in
+      let start = condition .before .before .before .before in
+      let part = condition .before .level .ensures .right (condition .if1 .left) in
       let inside = code-inside (ended (start .args .codes .now) (start .args .n .0)) _ QUESTION (omega arith) (is-question question) in
       (omega (arith, start .pre .0, passed part (omega arith), inside), onward part (start .pre .1) inside)
 
   whole-returns-3 : whole-lts.Need-returns-3 (whole-claims t) (whole-at t) whole.Post
   whole-returns-3 c =
-      let question = c .before .before .before .before .before .before in
+      let question = c .before .before .before .before in
       let condition = question .before .before in
-      let start = condition .before .before .before .before .before in
+      let start = condition .before .before .before .before in
       let codes = start .args .codes .now in
-      let part = condition .before .before .level .ensures .right (condition .if1 .left) in
-      let bad = c .before .before .whole .ensures .wrong (c .if3 .taken) in
+      let part = condition .before .level .ensures .right (condition .if1 .left) in
+      let bad = c .before .whole .ensures .wrong (c .if3 .taken) in
       handed (c .if3 .taken) (choice-bad-first (ended codes _) _ (part .entries) _ (part .made) (is-question question) _ bad)
 
   whole-code-at-requires-2 : whole-lts.Need-code-at-requires-2 (whole-claims t) (whole-at t) whole.Post
   whole-code-at-requires-2 first κs =
-      let start = first .before .before .before .before .before .before .before .before .before .before .before .before .before in
+      let start = first .before .before .before .before .before .before .before .before .before .before in
       start .pre .1 .few
 
-  whole-add-t17 : whole-lts.Need-add-t17 (whole-claims t) (whole-at t) whole.Post
-  whole-add-t17 c =
-      let first = c .before .before .before in
+  whole-add-result : whole-lts.Need-add-result (whole-claims t) (whole-at t) whole.Post
+  whole-add-result c =
+      let first = c .before .before in
       omega (arith, first .if3 .left)
 
   whole-returns-4 : whole-lts.Need-returns-4 (whole-claims t) (whole-at t) whole.Post
   whole-returns-4 c =
-      let first = c .before .before .before in
-      let question = first .before .before .before .before .before .before in
+      let first = c .before .before in
+      let question = first .before .before .before .before in
       let condition = question .before .before in
-      let start = condition .before .before .before .before .before in
+      let start = condition .before .before .before .before in
       let codes = start .args .codes .now in
-      let part = condition .before .before .level .ensures .right (condition .if1 .left) in
-      let arm = first .before .before .whole .ensures .right (first .if3 .left) in
+      let part = condition .before .level .ensures .right (condition .if1 .left) in
+      let arm = first .before .whole .ensures .right (first .if3 .left) in
       faulty _
       (choice-no-colon (ended codes _) _ (part .entries) _ (part .made) (is-question question) (arm .entries) _ (arm .made)
-      (λ z. c .before .if4 .taken (c .before .before .code-at2 .ensures ∙ z)))
+      (λ z. c .if4 .taken (c .before .code-at2 .ensures ∙ z)))
 
   whole-add-t16-2 : whole-lts.Need-add-t16-2 (whole-claims t) (whole-at t) whole.Post
   whole-add-t16-2 c =
-      let first = c .before .before .before .before .before in
+      let first = c .before .before .before .before in
       omega (arith, first .if3 .left)
 
   whole-whole-requires-2 : whole-lts.Need-whole-requires-2 (whole-claims t) (whole-at t) whole.Post
   whole-whole-requires-2 c κs =
-      let colon = c .before .before .before in
+      let colon = c .before .before in
       let first = colon .before .before in
-      let question = first .before .before .before .before .before .before in
+      let question = first .before .before .before .before in
       let condition = question .before .before in
-      let start = condition .before .before .before .before .before in
-      let part = condition .before .before .level .ensures .right (condition .if1 .left) in
-      let arm = first .before .before .whole .ensures .right (first .if3 .left) in
+      let start = condition .before .before .before .before in
+      let part = condition .before .level .ensures .right (condition .if1 .left) in
+      let arm = first .before .whole .ensures .right (first .if3 .left) in
       let inside = code-inside (ended (start .args .codes .now) (start .args .n .0)) _ QUESTION (omega arith) (is-question question) in
       let within = code-inside (ended (start .args .codes .now) (start .args .n .0)) _ COLON (omega arith) (is-colon colon) in (
         omega (arith, start .pre .0, passed part (omega arith), passed arm tt, within),
@@ -567,68 +567,68 @@ module _ (t : ℕ) where
 
   whole-returns-5 : whole-lts.Need-returns-5 (whole-claims t) (whole-at t) whole.Post
   whole-returns-5 c =
-      let colon = c .before .before .before .before .before .before in
+      let colon = c .before .before .before .before in
       let first = colon .before .before in
-      let question = first .before .before .before .before .before .before in
+      let question = first .before .before .before .before in
       let condition = question .before .before in
-      let start = condition .before .before .before .before .before in
+      let start = condition .before .before .before .before in
       let codes = start .args .codes .now in
-      let part = condition .before .before .level .ensures .right (condition .if1 .left) in
-      let arm = first .before .before .whole .ensures .right (first .if3 .left) in
-      let bad = c .before .before .whole2 .ensures .wrong (c .if5 .taken) in
+      let part = condition .before .level .ensures .right (condition .if1 .left) in
+      let arm = first .before .whole .ensures .right (first .if3 .left) in
+      let bad = c .before .whole2 .ensures .wrong (c .if5 .taken) in
       handed (c .if5 .taken)
       (choice-bad-second (ended codes _) _ (part .entries) _ (part .made) (is-question question) (arm .entries) _ (arm .made) (is-colon colon) _ bad)
 
   whole-cast-append : whole-lts.Need-cast-append (whole-claims t) (whole-at t) whole.Post
   whole-cast-append c =
-      let second = c .before .before .before in
-      let condition = second .before .before .before .before .before .before .before .before .before .before .before .before .before .before .before .before in
+      let second = c .before .before in
+      let condition = second .before .before .before .before .before .before .before .before .before .before .before .before in
       omega (arith, condition .if1 .left)
 
   -- there is room for the two entries of a choice
-  whole-room : (second : whole-lts.Else5 (whole-claims t) (whole-at t) whole.Post) → second .before .before .whole2 .last .1 .0 + 1 < 200
+  whole-room : (second : whole-lts.Else5 (whole-claims t) (whole-at t) whole.Post) → second .before .whole2 .last .1 .0 + 1 < 200
   whole-room second =
-      let colon = second .before .before .before .before .before .before in
+      let colon = second .before .before .before .before in
       let first = colon .before .before in
-      let condition = first .before .before .before .before .before .before .before .before in
-      let fit = condition .before .before .before .before .before .pre .1 in
-      let part = condition .before .before .level .ensures .right (condition .if1 .left) in
-      let arm = first .before .before .whole .ensures .right (first .if3 .left) in
-      let other = second .before .before .whole2 .ensures .right (second .if5 .left) in
+      let condition = first .before .before .before .before .before .before in
+      let fit = condition .before .before .before .before .pre .1 in
+      let part = condition .before .level .ensures .right (condition .if1 .left) in
+      let arm = first .before .whole .ensures .right (first .if3 .left) in
+      let other = second .before .whole2 .ensures .right (second .if5 .left) in
       omega (arith, passed other tt, passed arm tt, passed part (omega arith), other .most, arm .most, part .most, fit .room, fit .few)
 
   whole-append-requires : whole-lts.Need-append-requires (whole-claims t) (whole-at t) whole.Post
   whole-append-requires c κs =
-      let second = c .before .before .before in
+      let second = c .before .before in
       omega (arith, whole-room second)
 
   whole-append-requires-2 : whole-lts.Need-append-requires-2 (whole-claims t) (whole-at t) whole.Post
   whole-append-requires-2 c κs =
       let added = c .before .before in
-      let second = added .before .before .before .before in
+      let second = added .before .before .before in
       omega (arith, added .append .ensures .1, whole-room second)
 
   whole-returns-6 : whole-lts.Need-returns-6 (whole-claims t) (whole-at t) whole.Post
   whole-returns-6 c =
       let added = c .before .before .before in
-      let second = added .before .before .before .before in
-      let colon = second .before .before .before .before .before .before in
+      let second = added .before .before .before in
+      let colon = second .before .before .before .before in
       let first = colon .before .before in
-      let question = first .before .before .before .before .before .before in
+      let question = first .before .before .before .before in
       let condition = question .before .before in
-      let start = condition .before .before .before .before .before in
+      let start = condition .before .before .before .before in
       let codes = start .args .codes .now in
-      let part = condition .before .before .level .ensures .right (condition .if1 .left) in
-      let arm = first .before .before .whole .ensures .right (first .if3 .left) in
-      let other = second .before .before .whole2 .ensures .right (second .if5 .left) in
-      let q = condition .before .before .level .result .0 in
+      let part = condition .before .level .ensures .right (condition .if1 .left) in
+      let arm = first .before .whole .ensures .right (first .if3 .left) in
+      let other = second .before .whole2 .ensures .right (second .if5 .left) in
+      let q = condition .before .level .result in
       let entry = added .append .ensures in
       let filler = c .append2 .ensures in
       let order = added .append .last .0 in
       let filled = added .append .last .1 .0 in
-      let after-condition = take (condition .before .before .level .last .1 .0) (condition .before .before .level .last .0) in
-      let after-first = take (first .before .before .whole .last .1 .0) (first .before .before .whole .last .0) in
-      let long = put-long (second .before .before .whole2 .last .0) (second .before .before .whole2 .last .1 .0) q (entry .0) (other .long) in
+      let after-condition = take (condition .before .level .last .1 .0) (condition .before .level .last .0) in
+      let after-first = take (first .before .whole .last .1 .0) (first .before .whole .last .0) in
+      let long = put-long (second .before .whole2 .last .0) (second .before .whole2 .last .1 .0) q (entry .0) (other .long) in
       let held = extra other q (omega (arith, whole-room second)) (entry .0) (entry .1) in
       let space : filled < length order = omega (arith, entry .1, long, whole-room second) in
       let full = put order after-first (other .entries ++ (q ∷ [])) filled FILLER (filler .0) (filler .1) space held in
@@ -658,7 +658,7 @@ pub +level+primary+unary+whole-spec : {M : Type 1} → statement M
     (level-returns-2 t)
     (level-returns-3 t)
     (level-sub-low t)
-    (level-add-t21 t)
+    (level-add-t20 t)
     (level-level-requires t)
     (level-returns-4 t)
     (level-cast-append t)
@@ -672,17 +672,17 @@ pub +level+primary+unary+whole-spec : {M : Type 1} → statement M
     (primary-is-primary-requires t)
     (primary-cast-append t)
     (primary-append-requires t)
-    (primary-add-t13 t)
+    (primary-add-result t)
     (primary-returns t)
-    (primary-add-t15 t)
+    (primary-add-result-2 t)
     (primary-returns-2 t)
-    (primary-add-t18 t)
+    (primary-add-t16 t)
     (primary-whole-requires t)
     (primary-returns-3 t)
     (primary-code-at-requires-2 t)
-    (primary-add-t21 t)
+    (primary-add-result-3 t)
     (primary-returns-4 t)
-    (primary-add-t18-2 t)
+    (primary-add-result-4 t)
     (primary-returns-5 t))
     (λ t. unary-lts.spec (unary-claims t)
     (unary-at t)
@@ -703,7 +703,7 @@ pub +level+primary+unary+whole-spec : {M : Type 1} → statement M
     (whole-whole-requires t)
     (whole-returns-3 t)
     (whole-code-at-requires-2 t)
-    (whole-add-t17 t)
+    (whole-add-result t)
     (whole-returns-4 t)
     (whole-add-t16-2 t)
     (whole-whole-requires-2 t)

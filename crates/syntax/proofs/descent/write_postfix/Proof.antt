@@ -10,13 +10,11 @@ whole-requires : tie.Need-whole-requires
 whole-requires c κs = search needs
 
 returns : tie.Need-returns
-returns c =
-    let test = c .before in
-    test .before .before .whole .ensures .wrong (test .if1 .taken)
+returns c = c .before .whole .ensures .wrong (c .if1 .taken)
 
 returns-2 : tie.Need-returns-2
 returns-2 c =
-    let whole = c .before .before in
+    let whole = c .before in
     let start = whole .before .before .before in
     let found = whole .whole .ensures .right (c .if1 .left) in
     let past = passed found tt in
