@@ -1,6 +1,6 @@
 -- The loop's invariant: with the operands that wait, the entries that are left leave whatever all entries leave. The measure is how many
 -- are left.
-use Prim.Native.Nat.{ℕ, _+_, _-_, _≤_}
+use Prim.Native.Nat.{ℕ, _+_, _-_, _≤_, _<_}
 use native.Mathlib.Omega.{arith}
 use mathlib.Core.Path.{_≡_, refl, sym, ap, _∙_}
 use mathlib.Core.Bool.{true, false}
@@ -11,7 +11,7 @@ use Rattle.value.specs.Places.{known}
 use Rattle.value.specs.Attributes.{primaryOf}
 use Rattle.grammar.specs.Grammar.{isPrimary}
 use Rattle.grammar.proofs.Inside.{primary-inside}
-use Rattle.syntax.specs.Order.{FILLER}
+use Rattle.syntax.specs.Order.{UNARY, FILLER}
 use Rattle.syntax.proofs.Orders.{ended}
 use Rattle.operands.proofs.Piles.{alone, instead}
 use Rattle.expression.specs.Postfix.{codeIn, Entry, operand, unary, binary, choice, filler, entryOf}
@@ -77,8 +77,9 @@ Is y entry =
 is : (y : Entry) (entry : EntryRead) → entryOf (work (start-of entry) .i) (number entry) ≡ y → Is y entry
 is y entry e =
     let start = start-of entry in
+    let loop = entry .before .before .before .loop in
     let inside = entry .before .before .loop-test .taken in
-    opened y (number entry) inside (omega (arith, start .pre .all, start .pre .long)) (entry .entry-number .ensures) e (entry .before .before .before .loop .inv .rest)
+    opened y (number entry) inside (omega (arith, start .pre .all, start .pre .long)) (entry .entry-number .ensures) e (loop .inv .rest)
 
 -- whether its token is a primary
 primary : (c : tie.Then2 Inv-loop μ-loop) → isPrimary (code (c .before .before .before .before)) ≡ true
@@ -86,6 +87,10 @@ primary c = ap isPrimary (sym (c .before .before .code-at2 .ensures)) ∙ sym (c
 
 no-primary : (c : tie.Else2 Inv-loop μ-loop) → isPrimary (code (c .before .before .before .before)) ≡ false
 no-primary c = ap isPrimary (sym (c .before .before .code-at2 .ensures)) ∙ sym (c .before .is-primary .ensures) ∙ c .if2 .left
+
+-- it is no unary operator
+no-unary : (c : tie.Else1 Inv-loop μ-loop) → number (c .before) < UNARY
+no-unary c = c .if1 .left
 
 -- it is no filler
 no-filler : (c : tie.Then3 Inv-loop μ-loop) → number (c .before .before .before .before .before) ≡ FILLER → ⊥
@@ -100,26 +105,30 @@ found-unary c =
 found-operand : (c : tie.Then2 Inv-loop μ-loop) → Is operand (c .before .before .before .before)
 found-operand c =
     let entry = c .before .before .before .before in
-    is operand entry (is-operand (work (start-of entry) .i) (number entry) (c .before .before .before .if1 .left) (primary c))
+    is operand entry (is-operand (work (start-of entry) .i) (number entry) (no-unary (c .before .before .before)) (primary c))
 
 found-choice : (c : tie.Then4 Inv-loop μ-loop) → Is choice (c .before .before .before .before .before .before)
 found-choice c =
     let entry = c .before .before .before .before .before .before in
-    let question = sym (c .before .before .before .before .code-at2 .ensures) ∙ c .if4 .taken in
-    is choice entry (is-choice (work (start-of entry) .i) (number entry) (c .before .before .before .before .before .if1 .left) (no-primary (c .before .before)) (no-filler (c .before)) question)
+    let read = c .before .before .before .before in
+    let question = sym (read .code-at2 .ensures) ∙ c .if4 .taken in
+    is choice entry
+    (is-choice (work (start-of entry) .i) (number entry) (no-unary (read .before)) (no-primary (c .before .before)) (no-filler (c .before)) question)
 
 found-binary : (c : tie.Else4 Inv-loop μ-loop) → Is binary (c .before .before .before .before .before .before)
 found-binary c =
     let entry = c .before .before .before .before .before .before in
+    let read = c .before .before .before .before in
     is binary entry
-    (is-binary (work (start-of entry) .i) (number entry) (c .before .before .before .before .before .if1 .left) (no-primary (c .before .before)) (no-filler (c .before))
-    (λ q. c .if4 .left (c .before .before .before .before .code-at2 .ensures ∙ q)))
+    (is-binary (work (start-of entry) .i) (number entry) (no-unary (read .before)) (no-primary (c .before .before)) (no-filler (c .before))
+    (λ q. c .if4 .left (read .code-at2 .ensures ∙ q)))
 
 found-filler : (c : tie.Else3 Inv-loop μ-loop) → Is filler (c .before .before .before .before .before)
 found-filler c =
     let entry = c .before .before .before .before .before in
     is filler entry
-    (is-filler (work (start-of entry) .i) (number entry) (c .before .before .before .before .if1 .left) (no-primary (c .before)) (entry .entry-number .ensures ∙ c .if3 .left))
+    (is-filler (work (start-of entry) .i) (number entry) (no-unary (c .before .before .before .before)) (no-primary (c .before))
+    (entry .entry-number .ensures ∙ c .if3 .left))
 
 loop-holds : tie.Need-loop-holds Inv-loop μ-loop
 loop-holds c =
