@@ -39,7 +39,8 @@ module _ (f : Token → ℕ) (ts : List Token) (l l′ : List ℕ) (fits : lengt
   entry i h = rw split (nth ts rest i h)
 
 module _ (read : Reading) (cs ss ls vs cs′ ss′ ls′ vs′ : List ℕ) (so : Stored read cs ss ls vs cs′ ss′ ls′ vs′)
-    (c : length (read .tokens) ≤ length cs) (s : length (read .tokens) ≤ length ss) (l : length (read .tokens) ≤ length ls) (v : length (read .tokens) ≤ length vs)
+    (c : length (read .tokens) ≤ length cs) (s : length (read .tokens) ≤ length ss)
+    (l : length (read .tokens) ≤ length ls) (v : length (read .tokens) ≤ length vs)
   where
     pub codes-read : take (length (read .tokens)) cs′ ≡ codesOf (read .tokens)
     codes-read = first (λ t. t .code) (read .tokens) cs cs′ c (so .codes-are)
@@ -50,37 +51,43 @@ module _ (read : Reading) (cs ss ls vs cs′ ss′ ls′ vs′ : List ℕ) (so :
         by : (t : Bool) → ltb i (length (read .tokens)) ≡ t → tokenAt cs′ ss′ ls′ vs′ (length (read .tokens)) i ≡ tokenIn (read .tokens) i
         by true e =
             let h = ltb-true i (length (read .tokens)) e in
-            rw (e, entry (λ t. t .code) (read .tokens) cs cs′ c (so .codes-are) i h, entry (λ t. t .start) (read .tokens) ss ss′ s (so .starts-are) i h, entry (λ t. t .len) (read .tokens) ls ls′ l (so .lens-are) i h, entry (λ t. t .value) (read .tokens) vs vs′ v (so .values-are) i h)
+            let code = entry (λ t. t .code) (read .tokens) cs cs′ c (so .codes-are) i h in
+            let start = entry (λ t. t .start) (read .tokens) ss ss′ s (so .starts-are) i h in
+            let len = entry (λ t. t .len) (read .tokens) ls ls′ l (so .lens-are) i h in
+            let value = entry (λ t. t .value) (read .tokens) vs vs′ v (so .values-are) i h in
+            rw (e, code, start, len, value)
         by false e = rw (e, List·getD-eq-default (read .tokens) END-TOKEN (ltb-false i (length (read .tokens)) e))
 
     pub tokens-read : tokenAt cs′ ss′ ls′ vs′ (length (read .tokens)) ≡ tokenIn (read .tokens)
     tokens-read = fun-ext at
 
-module _ (e t cs₀ ss₀ ls₀ vs₀ cs ss ls vs : List ℕ) (room : Room (reading e) cs₀ ss₀ ls₀ vs₀) (so : Stored (reading e) cs₀ ss₀ ls₀ vs₀ cs ss ls vs) where
-  kept : (f : Token → ℕ) (l l′ : List ℕ) → l′ ≡ stored (map f (reading e .tokens)) l → length l′ ≡ length l
-  kept f l l′ q = ap length q ∙ length-sets l 0 (map f (reading e .tokens))
+module _ (e t : List ℕ) {cs₀ ss₀ ls₀ vs₀ cs ss ls vs : List ℕ} (room : Room (reading e) cs₀ ss₀ ls₀ vs₀)
+    (so : Stored (reading e) cs₀ ss₀ ls₀ vs₀ cs ss ls vs)
+  where
+    kept : (f : Token → ℕ) (l l′ : List ℕ) → l′ ≡ stored (map f (reading e .tokens)) l → length l′ ≡ length l
+    kept f l l′ q = ap length q ∙ length-sets l 0 (map f (reading e .tokens))
 
-  -- the arrays have the tokens
-  pub holding : (n : ℕ) → n ≡ length (reading e .tokens) → Holding cs ss ls vs n
-  holding n c =
-      record {
-        few = omega (arith, c, most-tokens e);
-        codes = omega (arith, c, room .codes-hold, kept (λ k. k .code) cs₀ cs (so .codes-are));
-        starts = omega (arith, c, room .starts-hold, kept (λ k. k .start) ss₀ ss (so .starts-are));
-        lens = omega (arith, c, room .lens-hold, kept (λ k. k .len) ls₀ ls (so .lens-are));
-        values = omega (arith, c, room .values-hold, kept (λ k. k .value) vs₀ vs (so .values-are));
-      }
+    -- the arrays have the tokens
+    pub holding : (n : ℕ) → n ≡ length (reading e .tokens) → Holding cs ss ls vs n
+    holding n c =
+        record {
+          few = omega (arith, c, most-tokens e);
+          codes = omega (arith, c, room .codes-hold, kept (λ k. k .code) cs₀ cs (so .codes-are));
+          starts = omega (arith, c, room .starts-hold, kept (λ k. k .start) ss₀ ss (so .starts-are));
+          lens = omega (arith, c, room .lens-hold, kept (λ k. k .len) ls₀ ls (so .lens-are));
+          values = omega (arith, c, room .values-hold, kept (λ k. k .value) vs₀ vs (so .values-are));
+        }
 
-  -- where reading met no refusal, the answer to the arrays is the answer to the expression
-  pub answers : (n : ℕ) → n ≡ length (reading e .tokens) → reading e .ending ≡ Complete
-      → concluded (take n cs) (parse codeOf (meaning e t) (tokenAt cs ss ls vs n) n) ≡ inSoundTable e t
-  unfolding inSoundTable ofTokens
-  answers n c y =
-      let codes = codes-read (reading e) cs₀ ss₀ ls₀ vs₀ cs ss ls vs so (room .codes-hold) (room .starts-hold) (room .lens-hold) (room .values-hold) in
-      let tokens = tokens-read (reading e) cs₀ ss₀ ls₀ vs₀ cs ss ls vs so (room .codes-hold) (room .starts-hold) (room .lens-hold) (room .values-hold) in
-      rw (c, y, codes, tokens)
+    -- where reading met no refusal, the answer to the arrays is the answer to the expression
+    pub answers : (n : ℕ) → n ≡ length (reading e .tokens) → reading e .ending ≡ Complete
+        → concluded (take n cs) (parse codeOf (meaning e t) (tokenAt cs ss ls vs n) n) ≡ inSoundTable e t
+    unfolding inSoundTable ofTokens
+    answers n c y =
+        let codes = codes-read (reading e) cs₀ ss₀ ls₀ vs₀ cs ss ls vs so (room .codes-hold) (room .starts-hold) (room .lens-hold) (room .values-hold) in
+        let tokens = tokens-read (reading e) cs₀ ss₀ ls₀ vs₀ cs ss ls vs so (room .codes-hold) (room .starts-hold) (room .lens-hold) (room .values-hold) in
+        rw (c, y, codes, tokens)
 
 -- as many entries as bytes, or 200, are room enough
-pub room-of : (e cs ss ls vs : List ℕ) (most : ℕ) → length (reading e .tokens) ≤ most
+pub room-of : (e : List ℕ) {cs ss ls vs : List ℕ} (most : ℕ) → length (reading e .tokens) ≤ most
     → most ≤ length cs → most ≤ length ss → most ≤ length ls → most ≤ length vs → Room (reading e) cs ss ls vs
-room-of e cs ss ls vs most h c s l v = record { codes-hold = omega arith; starts-hold = omega arith; lens-hold = omega arith; values-hold = omega arith }
+room-of e most h c s l v = record { codes-hold = omega arith; starts-hold = omega arith; lens-hold = omega arith; values-hold = omega arith }

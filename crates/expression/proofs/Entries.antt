@@ -13,8 +13,8 @@ use Rattle.grammar.specs.Grammar.{isPrimary}
 use Rattle.value.specs.Attributes.{Attributes, unaryFrom, binaryFrom, choiceFrom}
 use Rattle.operands.specs.Stack.{operandAt, countAt, piled, Leaves}
 use Rattle.operands.proofs.Piles.{pile-length, latest, alone}
-use Rattle.syntax.specs.Order.{UNARY, SKIP}
-use Rattle.expression.specs.Postfix.{Input, codeIn, primaryIn, Entry, operand, unary, binary, choice, skip, entryOf, OnOne, OnTwo, OnThree, Does, Gives}
+use Rattle.syntax.specs.Order.{UNARY, FILLER}
+use Rattle.expression.specs.Postfix.{Input, codeIn, primaryIn, Entry, operand, unary, binary, choice, filler, entryOf, OnOne, OnTwo, OnThree, Does, Gives}
 
 -- what an entry stands for, from what is tested
 module _ (i : Input) (x : ℕ) where
@@ -24,14 +24,14 @@ module _ (i : Input) (x : ℕ) where
   pub is-operand : x < UNARY → isPrimary (codeIn i x) ≡ true → entryOf i x ≡ operand
   is-operand h e = rw (lt-leb UNARY x h, e)
 
-  pub is-skip : x < UNARY → isPrimary (codeIn i x) ≡ false → x ≡ SKIP → entryOf i x ≡ skip
-  is-skip h e f = rw (lt-leb UNARY x h, e, eq-eqb x SKIP f)
+  pub is-filler : x < UNARY → isPrimary (codeIn i x) ≡ false → x ≡ FILLER → entryOf i x ≡ filler
+  is-filler h e f = rw (lt-leb UNARY x h, e, eq-eqb x FILLER f)
 
-  pub is-choice : x < UNARY → isPrimary (codeIn i x) ≡ false → (x ≡ SKIP → ⊥) → codeIn i x ≡ QUESTION → entryOf i x ≡ choice
-  is-choice h e f g = rw (lt-leb UNARY x h, e, ne-eqb x SKIP f, eq-eqb (codeIn i x) QUESTION g)
+  pub is-choice : x < UNARY → isPrimary (codeIn i x) ≡ false → (x ≡ FILLER → ⊥) → codeIn i x ≡ QUESTION → entryOf i x ≡ choice
+  is-choice h e f g = rw (lt-leb UNARY x h, e, ne-eqb x FILLER f, eq-eqb (codeIn i x) QUESTION g)
 
-  pub is-binary : x < UNARY → isPrimary (codeIn i x) ≡ false → (x ≡ SKIP → ⊥) → (codeIn i x ≡ QUESTION → ⊥) → entryOf i x ≡ binary
-  is-binary h e f g = rw (lt-leb UNARY x h, e, ne-eqb x SKIP f, ne-eqb (codeIn i x) QUESTION g)
+  pub is-binary : x < UNARY → isPrimary (codeIn i x) ≡ false → (x ≡ FILLER → ⊥) → (codeIn i x ≡ QUESTION → ⊥) → entryOf i x ≡ binary
+  is-binary h e f g = rw (lt-leb UNARY x h, e, ne-eqb x FILLER f, ne-eqb (codeIn i x) QUESTION g)
 
 -- after the last entry
 drop-taken : (m : ℕ) (o : List ℕ) → drop m (take m o) ≡ []
@@ -54,7 +54,8 @@ module _ (e t : List ℕ) (w : List (List ℕ)) (top : ℕ) (go : List Attribute
       (omega (arith, first .0), rw p at (first .1), rw q at (last .1), rw p at (first .2))
 
   three : (g : OnThree (piled e t w top) go)
-      → (2 < top) × (g .c ≡ operandAt e t w (top - 3)) × (g .a ≡ operandAt e t w (top - 3 + 1)) × (g .b ≡ operandAt e t w (top - 3 + 2)) × (g .rest ≡ piled e t w (top - 3))
+      → (2 < top) × (g .c ≡ operandAt e t w (top - 3)) × (g .a ≡ operandAt e t w (top - 3 + 1)) × (g .b ≡ operandAt e t w (top - 3 + 2))
+      × (g .rest ≡ piled e t w (top - 3))
   three g =
       let last = latest e t w top (g .b) (g .a ∷ g .c ∷ g .rest) (g .shape) in
       let middle = latest e t w (top - 1) (g .a) (g .c ∷ g .rest) (sym (last .2)) in
@@ -96,7 +97,8 @@ begun k w = record { leaves = λ v g. g }
 
 -- the same, where entry p is x and stands for this
 pub record Next (k : Work) (y : Entry) (x : ℕ) (w : List (List ℕ)) (top p : ℕ) : Type 0 where
-  pub does : (v : Attributes) → Gives (k .i) (k .most) [] (entries k) v → Does (k .i) (k .most) y x (pile k w top) (λ u. Gives (k .i) (k .most) u (drop (p + 1) (entries k)) v)
+  pub does : (v : Attributes) → Gives (k .i) (k .most) [] (entries k) v
+      → Does (k .i) (k .most) y x (pile k w top) (λ u. Gives (k .i) (k .most) u (drop (p + 1) (entries k)) v)
 
 -- w′ holds the operands of w up to j, and then a
 abbrev pub Left : Work → List (List ℕ) → ℕ → Attributes → List (List ℕ) → Type 0
@@ -104,7 +106,8 @@ Left k w j a w′ = Leaves (k .i .e) (k .i .t) w j a w′
 
 module _ {k : Work} {w : List (List ℕ)} {top p : ℕ} where
   -- the next entry
-  pub opened : (y : Entry) (x : ℕ) → p < k .filled → k .filled ≤ length (k .order) → x ≡ getD (k .order) p 0 → entryOf (k .i) x ≡ y → Rest k w top p → Next k y x w top p
+  pub opened : (y : Entry) (x : ℕ) → p < k .filled → k .filled ≤ length (k .order) → x ≡ getD (k .order) p 0 → entryOf (k .i) x ≡ y → Rest k w top p
+      → Next k y x w top p
   opened y x h l q f r =
       let n : p < length (entries k) = rw (length-take-le (k .filled) (k .order) l) h in
       record { does = λ v g. rw (add-one p) (rw (drop-cons (entries k) p 0 n, getD-take (k .filled) (k .order) p 0 h, ← q, f) at (r .leaves v g)) }
@@ -139,14 +142,15 @@ module _ {k : Work} {w : List (List ℕ)} {top p : ℕ} where
         (f .0, omega (arith, h .few, ap (λ a. a .count) (f .1), ap (λ a. a .count) (f .2), ap (λ a. a .count) (f .3)))
 
   -- what is left to do after an entry
-  pub skip-on : {x : ℕ} → Next k skip x w top p → Rest k w top (p + 1)
-  skip-on r = record { leaves = r .does }
+  pub filler-on : {x : ℕ} → Next k filler x w top p → Rest k w top (p + 1)
+  filler-on r = record { leaves = r .does }
 
   module _ {x : ℕ} (w′ : List (List ℕ)) where
     pub operand-on : Next k operand x w top p → Left k w top (primaryIn (k .i) x) w′ → Rest k w′ (top + 1) (p + 1)
     operand-on r l = record { leaves = λ v g. rw (l .top) (r .does v g .1) }
 
-    pub unary-on : (o : ℕ) → o ≡ codeIn (k .i) (x - UNARY) → Next k unary x w top p → Left k w (top - 1) (unaryFrom o (at k w (top - 1))) w′ → Rest k w′ top (p + 1)
+    pub unary-on : (o : ℕ) → o ≡ codeIn (k .i) (x - UNARY) → Next k unary x w top p → Left k w (top - 1) (unaryFrom o (at k w (top - 1))) w′
+        → Rest k w′ top (p + 1)
     unary-on o q r l =
         record {
           leaves = λ v g.

@@ -15,7 +15,7 @@ use Rattle.grammar.specs.Grammar.{Nonterminal, level, expression, primaries, is
 use Rattle.grammar.specs.Parse.{END, InTable, Goal, find, extend, Result, bad, got, andThen, step, run, size, Yields}
 use Rattle.grammar.proofs.Codes.{among-every, question-level}
 use Rattle.grammar.proofs.Inside.{primary-inside, level-inside, code-inside}
-use Rattle.syntax.specs.Order.{UNARY, SKIP, postfix, Ordered}
+use Rattle.syntax.specs.Order.{UNARY, FILLER, postfix, Ordered}
 use Rattle.syntax.proofs.Orders.{ended}
 use Rattle.value.specs.Values.{skips}
 use Rattle.value.specs.Attributes.{Attributes, firstArm, unaryFrom, binaryFrom, choiceFrom}
@@ -25,7 +25,7 @@ use Rattle.value.proofs.Laws.{skipped-most, chosen-most}
 use Rattle.expression.specs.Meaning.{codeOf, meaning}
 use Rattle.expression.specs.Parsing.{tokenAt}
 use Rattle.expression.specs.Postfix.{Input, codeIn, primaryIn, Gives}
-use Rattle.expression.proofs.Entries.{is-unary, is-operand, is-skip, is-choice, is-binary}
+use Rattle.expression.proofs.Entries.{is-unary, is-operand, is-filler, is-choice, is-binary}
 
 -- a binary operator is no primary, and neither is a `?` or the end
 level-not-primary : (c k : ℕ) → k < 12 → levelOf c ≡ suc k → isPrimary c ≡ false
@@ -119,27 +119,37 @@ module _ (i : Input) (most : ℕ) (few : i .n ≤ 200) where
             (rw j (record { a = a; b = b; rest = s; shape = refl; few = omega (arith, y, z, g, m .count, w .count); next = u }))));
       }
 
-  choice : (q : ℕ) → codeIn i q ≡ QUESTION → (l : List ℕ) (c : Attributes) → Makes l c → (r : List ℕ) (a : Attributes) → Makes r a → (d : List ℕ) (b : Attributes) → Makes d b
-      → Makes (l ++ (r ++ (d ++ (q ∷ SKIP ∷ [])))) (choiceFrom c a b)
+  choice : (q : ℕ) → codeIn i q ≡ QUESTION → (l : List ℕ) (c : Attributes) → Makes l c → (r : List ℕ) (a : Attributes) → Makes r a
+      → (d : List ℕ) (b : Attributes) → Makes d b
+      → Makes (l ++ (r ++ (d ++ (q ∷ FILLER ∷ [])))) (choiceFrom c a b)
   choice q f l c m r a w d b x =
       let inside = code-inside (ended (i .codes) (i .n)) q QUESTION (omega arith) f in
-      let y = length-append l (r ++ (d ++ (q ∷ SKIP ∷ []))) in
-      let z = length-append r (d ++ (q ∷ SKIP ∷ [])) in
-      let y′ = length-append d (q ∷ SKIP ∷ []) in
+      let y = length-append l (r ++ (d ++ (q ∷ FILLER ∷ []))) in
+      let z = length-append r (d ++ (q ∷ FILLER ∷ [])) in
+      let y′ = length-append d (q ∷ FILLER ∷ []) in
       let z′ = chosen-most (firstArm (c .value)) (a .count) (b .count) in
       let j = is-choice i q (omega arith) (question-not-primary (codeIn i q) f) (λ h. omega (arith, h)) f in
-      let idle = is-skip i SKIP (omega arith) (end-not-primary (codeIn i SKIP) (rw (le-ltb SKIP (i .n) (omega arith)))) refl in
+      let idle = is-filler i FILLER (omega arith) (end-not-primary (codeIn i FILLER) (rw (le-ltb FILLER (i .n) (omega arith)))) refl in
       record {
         weight = m .weight + w .weight + x .weight;
         some = omega (arith, m .some);
         half = omega (arith, y, z, y′, m .half, w .half, x .half);
         count = omega (arith, y, z, y′, z′, m .count, w .count, x .count);
         runs = λ s k v p g u.
-            rw (append-assoc l (r ++ (d ++ (q ∷ SKIP ∷ []))) k, append-assoc r (d ++ (q ∷ SKIP ∷ [])) k, append-assoc d (q ∷ SKIP ∷ []) k)
-            (m .runs s (r ++ (d ++ (q ∷ SKIP ∷ k))) v (omega (arith, p)) (omega (arith, y, g))
-            (w .runs (c ∷ s) (d ++ (q ∷ SKIP ∷ k)) v (omega (arith, p, m .some)) (omega (arith, y, z, g))
-            (x .runs (a ∷ c ∷ s) (q ∷ SKIP ∷ k) v (omega (arith, p, m .some, w .some)) (omega (arith, y, z, y′, g))
-            (rw j (record { c = c; a = a; b = b; rest = s; shape = refl; few = omega (arith, y, z, y′, g, m .count, w .count, x .count); next = rw idle u })))));
+            rw (append-assoc l (r ++ (d ++ (q ∷ FILLER ∷ []))) k, append-assoc r (d ++ (q ∷ FILLER ∷ [])) k, append-assoc d (q ∷ FILLER ∷ []) k)
+            (m .runs s (r ++ (d ++ (q ∷ FILLER ∷ k))) v (omega (arith, p)) (omega (arith, y, g))
+            (w .runs (c ∷ s) (d ++ (q ∷ FILLER ∷ k)) v (omega (arith, p, m .some)) (omega (arith, y, z, g))
+            (x .runs (a ∷ c ∷ s) (q ∷ FILLER ∷ k) v (omega (arith, p, m .some, w .some)) (omega (arith, y, z, y′, g))
+            (rw j
+            (record {
+              c = c;
+              a = a;
+              b = b;
+              rest = s;
+              shape = refl;
+              few = omega (arith, y, z, y′, g, m .count, w .count, x .count);
+              next = rw idle u;
+            })))));
       }
 
   -- results of the two parsers that belong together

@@ -10,7 +10,7 @@ use Rattle.grammar.specs.Grammar.{isPrimary}
 use Rattle.value.specs.Attributes.{Attributes, primaryOf, unaryFrom, binaryFrom, choiceFrom}
 use Rattle.value.specs.declared.Known.{Known}
 use Rattle.value.specs.Places.{known}
-use Rattle.syntax.specs.Order.{codeAt, UNARY, SKIP}
+use Rattle.syntax.specs.Order.{codeAt, UNARY, FILLER}
 use Rattle.expression.specs.Parsing.{tokenAt, Ready}
 
 -- what an order is worked out over: expression and table, and the first n tokens of the arrays
@@ -36,13 +36,13 @@ pub data Entry : Type 0 where
   unary : Entry
   binary : Entry
   choice : Entry
-  skip : Entry
+  filler : Entry
 
 abbrev pub entryOf : Input → ℕ → Entry
 entryOf i x =
     pick (leb UNARY x) unary
     (pick (isPrimary (codeIn i x)) operand
-    (pick (eqb x SKIP) skip
+    (pick (eqb x FILLER) filler
     (pick (eqb (codeIn i x) QUESTION) choice binary)))
 
 -- the operands that an operator finds, the latest first, and what goes on with its result in their place
@@ -78,7 +78,7 @@ module _ (i : Input) (most : ℕ) where
   Does unary x s go = OnOne (codeIn i (x - UNARY)) s go
   Does binary x s go = OnTwo (codeIn i x) s go
   Does choice x s go = OnThree s go
-  Does skip x s go = go s
+  Does filler x s go = go s
 
   -- with the operands s waiting, the entries leave v alone
   abbrev pub Gives : List Attributes → List ℕ → Attributes → Type 0

@@ -1,8 +1,8 @@
 // Works a postfix order out.
-use crate::tokens;
+use crate::arrays;
 use lexeme::codes;
 use operands::stack;
-use syntax::tokens as entries;
+use syntax::tokens;
 use units::TokenNumber;
 use value::Known;
 use value::attributes;
@@ -11,7 +11,7 @@ ghost use lib.ListN.{length};
 ghost use Rattle.expression.specs.Postfix.{Foldable, Folds};
 
 // An entry as a number.
-fn wide(x: u16) -> usize
+fn entry_number(x: u16) -> usize
     ensures { λ r. ⌜ r ≡ x ⌝ }
 {
     x as usize
@@ -37,18 +37,18 @@ pub fn fold<'a>(
     let mut p: usize = 0;
     while p < filled {
         let e = order[p];
-        let x = wide(e);
+        let x = entry_number(e);
         p += 1;
-        if entries::UNARY <= x {
-            let o = entries::code_at(codes, n, TokenNumber(x - entries::UNARY));
+        if tokens::UNARY <= x {
+            let o = tokens::code_at(codes, n, TokenNumber(x - tokens::UNARY));
             stack::unary(waiting, top - 1, o);
         } else {
-            let o = entries::code_at(codes, n, TokenNumber(x));
-            if entries::is_primary(o) {
-                let k = tokens::token_at(codes, starts, lens, values, n, TokenNumber(x));
+            let o = tokens::code_at(codes, n, TokenNumber(x));
+            if tokens::is_primary(o) {
+                let k = arrays::token_at(codes, starts, lens, values, n, TokenNumber(x));
                 stack::store(waiting, top, attributes::of_primary(expr, table, k));
                 top += 1;
-            } else if e != entries::SKIP {
+            } else if e != tokens::FILLER {
                 if o == codes::QUESTION {
                     stack::choice(waiting, top - 3);
                     top -= 2;

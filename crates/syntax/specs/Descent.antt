@@ -1,4 +1,4 @@
--- What the parts of the descent promise each other. No promise about an expression cites this.
+-- What the functions of the descent promise each other. No promise about an expression cites this.
 use Prim.Native.Nat.{ℕ, zero, suc, _+_, _-_, _≤_, _<_}
 use mathlib.Core.Path.{_≡_}
 use mathlib.Core.Bool.{true}
@@ -12,25 +12,25 @@ use Rattle.syntax.specs.Order.{codeAt, UNARY, Ordered}
 abbrev pub BAD : ℕ
 BAD = 256
 
--- what a part may assume, that starts at token i with m entries written: no more entries than tokens passed
+-- what a function may assume that starts at token i with m entries written: there are no more entries than tokens before i
 pub record Fit (n i m : ℕ) (o : List ℕ) : Type 0 where
   pub few : n ≤ 200
   pub within : i ≤ n
   pub room : m ≤ i
   pub long : length o ≡ 200
 
--- a part that was found from token i to token r, whose entries were added to the m that were there
-pub record Placed (cs : List ℕ) (n : ℕ) (g : Goal (List ℕ)) (i m : ℕ) (o : List ℕ) (r m′ : ℕ) (o′ : List ℕ) : Type 0 where
+-- a part of the expression that was found from token i to token r, whose entries were added to the m that were there
+pub record Appended (cs : List ℕ) (n : ℕ) (g : Goal (List ℕ)) (i m : ℕ) (o : List ℕ) (r m′ : ℕ) (o′ : List ℕ) : Type 0 where
   pub entries : List ℕ
   pub made : Ordered cs n g (got entries r)
   pub held : take m′ o′ ≡ take m o ++ entries
   pub most : m′ + i ≤ m + r
   pub long : length o′ ≡ 200
 
--- what a part has to answer
-pub record Places (cs : List ℕ) (n : ℕ) (g : Goal (List ℕ)) (i m : ℕ) (o : List ℕ) (r m′ : ℕ) (o′ : List ℕ) : Type 0 where
+-- what a function has to answer
+pub record Appends (cs : List ℕ) (n : ℕ) (g : Goal (List ℕ)) (i m : ℕ) (o : List ℕ) (r m′ : ℕ) (o′ : List ℕ) : Type 0 where
   pub wrong : BAD ≤ r → Ordered cs n g (bad (r - BAD))
-  pub right : r < BAD → Placed cs n g i m o r m′ o′
+  pub right : r < BAD → Appended cs n g i m o r m′ o′
 
 -- the tokens from i to j, of n, are unary operators
 pub record Run (cs : List ℕ) (n i j : ℕ) : Type 0 where
@@ -44,7 +44,7 @@ back zero i = []
 back (suc m) i = back m (suc i) ++ ((UNARY + i) ∷ [])
 
 -- what adding the entries of the unary operators from token i to token j has to answer
-pub record Signs (i j m : ℕ) (o : List ℕ) (m′ : ℕ) (o′ : List ℕ) : Type 0 where
+pub record AppendsRun (i j m : ℕ) (o : List ℕ) (m′ : ℕ) (o′ : List ℕ) : Type 0 where
   pub held : take m′ o′ ≡ take m o ++ back (j - i) i
   pub most : m′ ≡ m + (j - i)
   pub long : length o′ ≡ 200

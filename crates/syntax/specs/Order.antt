@@ -9,20 +9,20 @@ use Rattle.text.specs.Bytes.{pick}
 use Rattle.grammar.specs.Grammar.{expression}
 use Rattle.grammar.specs.Fold.{Algebra}
 use Rattle.grammar.specs.Parse.{Goal, Result, bad, got, find, Yields, END}
-use Rattle.syntax.specs.declared.descent.Written.{Written}
-use Rattle.syntax.specs.declared.descent.Written.the-variants.{Bad, Order}
+use Rattle.syntax.specs.declared.descent.Postfix.{Postfix}
+use Rattle.syntax.specs.declared.descent.Postfix.the-variants.{Bad, Order}
 
 -- the code of token i, of n tokens; past them the code of the end
 abbrev pub codeAt : List ℕ → ℕ → ℕ → ℕ
 codeAt cs n i = pick (ltb i n) (getD cs i 0) END
 
--- An entry of the order is the number of a token; that of a unary operator has UNARY added. A choice has a second entry, SKIP, for which
+-- An entry of the order is the number of a token; that of a unary operator has UNARY added. A choice has a second entry, FILLER, for which
 -- nothing is done, so that at most every other entry adds an operand.
 abbrev pub UNARY : ℕ
 UNARY = 256
 
-abbrev pub SKIP : ℕ
-SKIP = 255
+abbrev pub FILLER : ℕ
+FILLER = 255
 
 -- the entries of each form, from those of its operands
 abbrev pub postfix : Algebra ℕ (List ℕ)
@@ -31,7 +31,7 @@ postfix =
       leaf = λ i. i ∷ [];
       unary = λ o a. a ++ ((UNARY + o) ∷ []);
       binary = λ o a b. a ++ (b ++ (o ∷ []));
-      choice = λ q c a b. c ++ (a ++ (b ++ (q ∷ SKIP ∷ [])));
+      choice = λ q c a b. c ++ (a ++ (b ++ (q ∷ FILLER ∷ [])));
     }
 
 -- what the grammar's parser makes of the tokens' numbers
@@ -45,6 +45,6 @@ pub record OrderTo (cs : List ℕ) (n m j : ℕ) (o : List ℕ) : Type 0 where
   pub long : length o ≡ 200
 
 -- what the descent has to answer, with the list as it leaves it
-abbrev pub Writes : (cs : List ℕ) (n : ℕ) → Written → List ℕ → Type 0
-Writes cs n (Bad z) o = Ordered cs n (find expression 0) (bad (z .0))
-Writes cs n (Order m j) o = OrderTo cs n m (j .0) o
+abbrev pub WritesPostfix : (cs : List ℕ) (n : ℕ) → Postfix → List ℕ → Type 0
+WritesPostfix cs n (Bad z) o = Ordered cs n (find expression 0) (bad (z .0))
+WritesPostfix cs n (Order m j) o = OrderTo cs n m (j .0) o

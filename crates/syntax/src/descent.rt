@@ -1,6 +1,6 @@
-// The recursive descent: each level of the grammar calls the one below it, and a primary in parentheses the whole expression. It reads
-// the codes of the tokens and writes the postfix order: operands before their operator. No value is looked at, so that a call needs little
-// of the stack.
+// The recursive descent: a level of the grammar calls tighter ones, and a primary in parentheses the whole expression. It reads the codes
+// of the tokens and writes the postfix order: operands before their operator. No value is looked at, so that a call needs little of the
+// stack.
 use crate::tokens;
 use lexeme::codes;
 use units::TokenNumber;
@@ -10,11 +10,11 @@ ghost use Prim.Native.Nat.{_+_, _-_, _≤_, _<_};
 ghost use lib.ListN.{set, length};
 ghost use Rattle.grammar.specs.Grammar.{isUnary, level as levelAt, expression as wholeAt};
 ghost use Rattle.grammar.specs.Parse.{find};
-ghost use Rattle.syntax.specs.Order.{codeAt, Writes};
-ghost use Rattle.syntax.specs.Descent.{Fit, Places, Run, Signs};
+ghost use Rattle.syntax.specs.Order.{codeAt, WritesPostfix};
+ghost use Rattle.syntax.specs.Descent.{Fit, Appends, Run, AppendsRun};
 
 // The token at which the expression goes wrong, or the number of entries written and the token after the expression.
-pub enum Written {
+pub enum Postfix {
     Bad(TokenNumber),
     Order(usize, TokenNumber),
 }
@@ -36,7 +36,7 @@ fn run_end(codes: &[u8; 200], n: TokenNumber, i: TokenNumber) -> TokenNumber
 const BAD: usize = 256;
 
 // Adds an entry to the order.
-fn place(order: &mut [u16; 200], filled: &mut usize, x: u16)
+fn append(order: &mut [u16; 200], filled: &mut usize, x: u16)
     requires { ⌜ now filled < 200 ⌝ }
     ensures { λ r. ⌜ now (order .exit) ≡ set (now (order .entry)) (now (filled .entry)) x ⌝ }
     ensures { λ r. ⌜ now (filled .exit) ≡ now (filled .entry) + 1 ⌝ }
@@ -46,15 +46,16 @@ fn place(order: &mut [u16; 200], filled: &mut usize, x: u16)
     *filled = m + 1;
 }
 
-// Adds the unary operators from token i to token j, the last one first.
-fn signs(order: &mut [u16; 200], filled: &mut usize, i: usize, j: usize)
-    requires { ⌜ (i ≤ j) × (j ≤ 200) × (now filled + (j - i) ≤ 200) × (length (now order) ≡ 200) ⌝ }
-    ensures { λ r. ⌜ Signs i j (now (filled .entry)) (now (order .entry)) (now (filled .exit)) (now (order .exit)) ⌝ }
+// Adds the entries of the unary operators from token i to token j, the last one first.
+fn append_run(order: &mut [u16; 200], filled: &mut usize, i: TokenNumber, j: TokenNumber)
+    requires { ⌜ (i .0 ≤ j .0) × (j .0 ≤ 200) × (now filled + (j .0 - i .0) ≤ 200) × (length (now order) ≡ 200) ⌝ }
+    ensures { λ r. ⌜ AppendsRun (i .0) (j .0) (now (filled .entry)) (now (order .entry)) (now (filled .exit)) (now (order .exit)) ⌝ }
 {
-    let mut at = j;
-    while i < at {
+    let first = i.0;
+    let mut at = j.0;
+    while first < at {
         at -= 1;
-        place(order, filled, (tokens::UNARY + at) as u16);
+        append(order, filled, (tokens::UNARY + at) as u16);
     }
 }
 
@@ -67,7 +68,7 @@ fn whole(
     i: TokenNumber,
 ) -> usize
     requires { ⌜ Fit (n .0) (i .0) (now filled) (now order) ⌝ }
-    ensures { λ r. ⌜ Places (now (codes .entry)) (n .0) (find wholeAt (i .0)) (i .0) (now (filled .entry)) (now (order .entry)) r (now (filled .exit)) (now (order .exit)) ⌝ }
+    ensures { λ r. ⌜ Appends (now (codes .entry)) (n .0) (find wholeAt (i .0)) (i .0) (now (filled .entry)) (now (order .entry)) r (now (filled .exit)) (now (order .exit)) ⌝ }
 {
     let c = level(order, filled, codes, n, 12, i);
     if BAD <= c {
@@ -87,13 +88,14 @@ fn whole(
     if BAD <= b {
         return b;
     }
-    place(order, filled, c as u16);
-    place(order, filled, tokens::SKIP);
+    append(order, filled, c as u16);
+    append(order, filled, tokens::FILLER);
     b
 }
 
-// An operand of level k: operators of that level and of tighter ones. Where the operator behind an operand is of a level between the one that
-// was reached and k, its right operand is of the next tighter level; levels at which nothing stands to extend the operand are skipped.
+// An operand of level k: operators of that level and of tighter ones. Where the operator after an operand is of a level looser than the one
+// that was reached, and not looser than k, its right operand is of the next tighter level. Levels at which nothing extends the operand are
+// passed over.
 fn level(
     order: &mut [u16; 200],
     filled: &mut usize,
@@ -103,7 +105,7 @@ fn level(
     i: TokenNumber,
 ) -> usize
     requires { ⌜ Fit (n .0) (i .0) (now filled) (now order) × (1 ≤ k) × (k ≤ 12) ⌝ }
-    ensures { λ r. ⌜ Places (now (codes .entry)) (n .0) (find (levelAt k) (i .0)) (i .0) (now (filled .entry)) (now (order .entry)) r (now (filled .exit)) (now (order .exit)) ⌝ }
+    ensures { λ r. ⌜ Appends (now (codes .entry)) (n .0) (find (levelAt k) (i .0)) (i .0) (now (filled .entry)) (now (order .entry)) r (now (filled .exit)) (now (order .exit)) ⌝ }
 {
     let mut at = unary(order, filled, codes, n, i);
     if BAD <= at {
@@ -124,12 +126,12 @@ fn level(
         if BAD <= next {
             return next;
         }
-        place(order, filled, at as u16);
+        append(order, filled, at as u16);
         at = next;
     }
 }
 
-// An operand of level 1: the run of unary operators in front is passed, and they come after the primary behind it.
+// An operand of level 1: the run of unary operators in front is passed, and their entries come after those of the primary.
 fn unary(
     order: &mut [u16; 200],
     filled: &mut usize,
@@ -138,14 +140,14 @@ fn unary(
     i: TokenNumber,
 ) -> usize
     requires { ⌜ Fit (n .0) (i .0) (now filled) (now order) ⌝ }
-    ensures { λ r. ⌜ Places (now (codes .entry)) (n .0) (find (levelAt 1) (i .0)) (i .0) (now (filled .entry)) (now (order .entry)) r (now (filled .exit)) (now (order .exit)) ⌝ }
+    ensures { λ r. ⌜ Appends (now (codes .entry)) (n .0) (find (levelAt 1) (i .0)) (i .0) (now (filled .entry)) (now (order .entry)) r (now (filled .exit)) (now (order .exit)) ⌝ }
 {
     let j = run_end(codes, n, i);
     let next = primary(order, filled, codes, n, j);
     if BAD <= next {
         return next;
     }
-    signs(order, filled, i.0, j.0);
+    append_run(order, filled, i, j);
     next
 }
 
@@ -157,11 +159,11 @@ fn primary(
     i: TokenNumber,
 ) -> usize
     requires { ⌜ Fit (n .0) (i .0) (now filled) (now order) ⌝ }
-    ensures { λ r. ⌜ Places (now (codes .entry)) (n .0) (find (levelAt 0) (i .0)) (i .0) (now (filled .entry)) (now (order .entry)) r (now (filled .exit)) (now (order .exit)) ⌝ }
+    ensures { λ r. ⌜ Appends (now (codes .entry)) (n .0) (find (levelAt 0) (i .0)) (i .0) (now (filled .entry)) (now (order .entry)) r (now (filled .exit)) (now (order .exit)) ⌝ }
 {
     let o = tokens::code_at(codes, n, i);
     if tokens::is_primary(o) {
-        place(order, filled, i.0 as u16);
+        append(order, filled, i.0 as u16);
         return i.0 + 1;
     }
     if o != codes::OPEN {
@@ -178,14 +180,14 @@ fn primary(
 }
 
 // Writes the order of the expression that starts at the first token.
-pub fn write(order: &mut [u16; 200], codes: &[u8; 200], n: TokenNumber) -> Written
+pub fn write_postfix(order: &mut [u16; 200], codes: &[u8; 200], n: TokenNumber) -> Postfix
     requires { ⌜ (n .0 ≤ 200) × (length (now order) ≡ 200) ⌝ }
-    ensures { λ r. ⌜ Writes (now (codes .entry)) (n .0) r (now (order .exit)) ⌝ }
+    ensures { λ r. ⌜ WritesPostfix (now (codes .entry)) (n .0) r (now (order .exit)) ⌝ }
 {
     let mut filled: usize = 0;
     let r = whole(order, &mut filled, codes, n, TokenNumber(0));
     if BAD <= r {
-        return Written::Bad(TokenNumber(r - BAD));
+        return Postfix::Bad(TokenNumber(r - BAD));
     }
-    Written::Order(filled, TokenNumber(r))
+    Postfix::Order(filled, TokenNumber(r))
 }

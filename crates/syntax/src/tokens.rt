@@ -85,4 +85,4 @@ pub fn level_of(c: u8) -> u8
 pub const UNARY: usize = 256;
 
 // The second entry of a choice, for which nothing is done.
-pub const SKIP: u16 = 255;
+pub const FILLER: u16 = 255;

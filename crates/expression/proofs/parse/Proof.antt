@@ -7,8 +7,9 @@ use lib.ListN.{length, take}
 use lib.Seq.{length-take-le}
 use borrow.Author.Needs.{needs}
 use Rattle.grammar.specs.Grammar.{expression}
-use Rattle.grammar.specs.Parse.{got, find, Yields}
+use Rattle.grammar.specs.Parse.{Result, got, find, Yields}
 use Rattle.syntax.specs.Order.{OrderTo}
+use Rattle.value.specs.Attributes.{Attributes}
 use Rattle.value.specs.declared.Known.{Known}
 use Rattle.value.specs.Places.{known}
 use Rattle.expression.specs.Meaning.{codeOf, meaning}
@@ -30,22 +31,28 @@ input s =
       n = s .args .n .0;
     }
 
--- an order can be folded with room for half its entries
-foldable : (s : tie.Start) (most m j : ℕ) (o : List ℕ) → OrderTo (input s .codes) (input s .n) m j o → m ≤ most + most → Foldable (input s) most o m
-foldable s most m j o w room =
-    let l = length-take-le m o (omega (arith, w .most, w .long)) in
-    let v = valued (input s) most (s .pre .holding .few) (take m o) j (omega (arith, l, w .most)) (omega (arith, l)) (w .made) in
-    record { ready = s .pre; all = w .most; long = w .long; value = v .0; gives = v .1 }
+-- the parser's result for the whole expression
+abbrev Parsing : tie.Start → Result Attributes → Type 0
+Parsing s r =
+    let i = input s in
+    Yields codeOf (meaning (i .e) (i .t)) (tokenAt (i .codes) (i .starts) (i .lens) (i .values) (i .n)) (i .n) (find expression 0) r
 
--- what it leaves is what the parser makes
-folded : (s : tie.Start) (most m j : ℕ) (o : List ℕ) → OrderTo (input s .codes) (input s .n) m j o → m ≤ most + most → (z : Known) → Folds (input s) most o m z
-    → Yields codeOf (meaning (input s .e) (input s .t)) (tokenAt (input s .codes) (input s .starts) (input s .lens) (input s .values) (input s .n)) (input s .n) (find expression 0) (got (known (input s .e) (input s .t) z) j)
-folded s most m j o w room z f =
-    let l = length-take-le m o (omega (arith, w .most, w .long)) in
-    come (input s) most (s .pre .holding .few) (take m o) j (omega (arith, l, w .most)) (omega (arith, l)) (w .made) z f
+module _ (s : tie.Start) (most m j : ℕ) (o : List ℕ) (w : OrderTo (input s .codes) (input s .n) m j o) (room : m ≤ most + most) where
+  -- an order can be folded with room for half its entries
+  foldable : Foldable (input s) most o m
+  foldable =
+      let l = length-take-le m o (omega (arith, w .most, w .long)) in
+      let v = valued (input s) most (s .pre .holding .few) (take m o) j (omega (arith, l, w .most)) (omega (arith, l)) (w .made) in
+      record { ready = s .pre; all = w .most; long = w .long; value = v .0; gives = v .1 }
 
-write-requires : tie.Need-write-requires
-write-requires c κs = search needs
+  -- what it leaves is what the parser makes
+  folded : (z : Known) → Folds (input s) most o m z → Parsing s (got (known (input s .e) (input s .t) z) j)
+  folded z f =
+      let l = length-take-le m o (omega (arith, w .most, w .long)) in
+      come (input s) most (s .pre .holding .few) (take m o) j (omega (arith, l, w .most)) (omega (arith, l)) (w .made) z f
+
+write-postfix-requires : tie.Need-write-postfix-requires
+write-postfix-requires c κs = search needs
 
 enum-known-at : tie.Need-enum-known-at
 enum-known-at c = search needs
@@ -58,45 +65,51 @@ slice-aggregate-fold c = search needs
 
 fold-requires : tie.Need-fold-requires
 fold-requires c κs =
-    let start = c .before .before .before .before .before .before .before .before .before .before .before .before .before in
-    let write = c .before .before .before .before .before .before .write in
-    let written = rw (c .before .before .before .before .filled .given .1) at (write .ensures) in
-    foldable start 16 _ _ (write .last .0) written (omega (arith, c .before .before .if1 .taken))
+    let order = c .before .before .before .before in
+    let write = order .before .before .write-postfix in
+    let start = order .before .before .before .before .before .before .before .before .before in
+    foldable start 16 _ _ (write .last .0) (rw (order .filled .given .1) at (write .ensures)) (omega (arith, c .before .before .if1 .taken))
 
 returns : tie.Need-returns
 returns c =
-    let start = c .before .before .before .before .before .before .before .before .before .before .before .before .before .before .before in
-    let write = c .before .before .before .before .before .before .before .before .write in
-    let written = rw (c .before .before .before .before .before .before .filled .given .1) at (write .ensures) in
-    folded start 16 _ _ (write .last .0) written (omega (arith, c .before .before .before .before .if1 .taken)) (c .before .fold .result) (c .before .fold .ensures)
+    let order = c .before .before .before .before .before .before in
+    let write = order .before .before .write-postfix in
+    let start = order .before .before .before .before .before .before .before .before .before in
+    let written = rw (order .filled .given .1) at (write .ensures) in
+    let short = c .before .before .before .before .if1 .taken in
+    folded start 16 _ _ (write .last .0) written (omega (arith, short)) (c .before .fold .result) (c .before .fold .ensures)
 
 slice-aggregate-fold-2 : tie.Need-slice-aggregate-fold-2
 slice-aggregate-fold-2 c = search needs
 
 fold-requires-2 : tie.Need-fold-requires-2
 fold-requires-2 c κs =
-    let start = c .before .before .before .before .before .before .before .before .before .before .before .before .before in
-    let write = c .before .before .before .before .before .before .write in
-    let written = rw (c .before .before .before .before .filled .given .1) at (write .ensures) in
+    let order = c .before .before .before .before in
+    let write = order .before .before .write-postfix in
+    let start = order .before .before .before .before .before .before .before .before .before in
+    let written = rw (order .filled .given .1) at (write .ensures) in
     foldable start 100 _ _ (write .last .0) written (omega (arith, written .most))
 
 returns-2 : tie.Need-returns-2
 returns-2 c =
-    let start = c .before .before .before .before .before .before .before .before .before .before in
-    faulted (input start) 100 (start .pre .holding .few) _ (rw (c .before .at .given .1) at (c .before .before .before .write .ensures))
+    let fault = c .before in
+    let write = fault .before .before .write-postfix in
+    let start = fault .before .before .before .before .before .before .before .before .before in
+    faulted (input start) 100 (start .pre .holding .few) _ (rw (fault .at .given .1) at (write .ensures))
 
 returns-3 : tie.Need-returns-3
 returns-3 c =
-    let start = c .before .before .before .before .before .before .before .before .before .before .before .before .before .before .before in
-    let write = c .before .before .before .before .before .before .before .before .write in
-    let written = rw (c .before .before .before .before .before .before .filled .given .1) at (write .ensures) in
+    let order = c .before .before .before .before .before .before in
+    let write = order .before .before .write-postfix in
+    let start = order .before .before .before .before .before .before .before .before .before in
+    let written = rw (order .filled .given .1) at (write .ensures) in
     folded start 100 _ _ (write .last .0) written (omega (arith, written .most)) (c .before .fold2 .result) (c .before .fold2 .ensures)
 
 pub parse-spec : {M : Type 1} → statement M
 parse-spec =
     tie.close
     (tie.spec
-    write-requires
+    write-postfix-requires
     enum-known-at
     enum-known-filled
     slice-aggregate-fold

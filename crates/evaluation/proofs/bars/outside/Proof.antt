@@ -25,29 +25,42 @@ is-outside-requires : tie.Need-is-outside-requires Inv-loop μ-loop
 is-outside-requires c κs = search needs
 
 returns : tie.Need-returns Inv-loop μ-loop
-returns c = let l = c .before .before .before .before .loop in
-    let s = c .before .before .before .before .before in
-    sym (l .inv .2 ∙ on (s .args .codes .now) (s .args .count .0) (s .pre .1) (l .i) (l .depth) (c .before .before .before .loop-test .taken) ∙ rw (← c .before .is-outside .ensures, c .if1 .taken))
+returns c =
+    let loop = c .before .before .before .before .loop in
+    let start = c .before .before .before .before .before in
+    let turn = on (start .args .codes .now) (start .args .count .0) (start .pre .1) (loop .i) (loop .depth) (c .before .before .before .loop-test .taken) in
+    sym (loop .inv .2 ∙ turn ∙ rw (← c .before .is-outside .ensures, c .if1 .taken))
 
 deeper-requires : tie.Need-deeper-requires Inv-loop μ-loop
-deeper-requires c κs = omega (arith, c .before .before .before .before .before .pre .0)
+deeper-requires c κs =
+    let start = c .before .before .before .before .before in
+    omega (arith, start .pre .0)
 
 add-i : tie.Need-add-i Inv-loop μ-loop
-add-i c = omega (arith, c .before .before .before .before .before .before .pre .0)
+add-i c =
+    let start = c .before .before .before .before .before .before in
+    omega (arith, start .pre .0)
 
 loop-less : tie.Need-loop-less Inv-loop μ-loop
 loop-less c = omega arith
 
 loop-again : tie.Need-loop-again Inv-loop μ-loop
-loop-again c = let l = c .before .before .before .before .before .loop in
-    let s = c .before .before .before .before .before .before in
-    let d = c .deeper .ensures in
-    (omega arith, omega (arith, d, deeper-most (l .depth) (getD (s .args .codes .now) (l .i) 0)), l .inv .2 ∙ on (s .args .codes .now) (s .args .count .0) (s .pre .1) (l .i) (l .depth) (c .before .before .before .before .loop-test .taken) ∙ rw (← c .before .before .is-outside .ensures, c .before .if1 .left, d))
+loop-again c =
+    let loop = c .before .before .before .before .before .loop in
+    let start = c .before .before .before .before .before .before in
+    let codes = start .args .codes .now in
+    let depth = c .deeper .ensures in
+    let turn = on codes (start .args .count .0) (start .pre .1) (loop .i) (loop .depth) (c .before .before .before .before .loop-test .taken) in (
+      omega arith,
+      omega (arith, depth, deeper-most (loop .depth) (getD codes (loop .i) 0)),
+      loop .inv .2 ∙ turn ∙ rw (← c .before .before .is-outside .ensures, c .before .if1 .left, depth),
+    )
 
 returns-2 : tie.Need-returns-2 Inv-loop μ-loop
-returns-2 c = let l = c .before .loop in
-    let s = c .before .before in
-    sym (l .inv .2 ∙ over (s .args .codes .now) (s .args .count .0) (s .pre .1) (l .i) (l .depth) (c .loop-test .left))
+returns-2 c =
+    let loop = c .before .loop in
+    let start = c .before .before in
+    sym (loop .inv .2 ∙ over (start .args .codes .now) (start .args .count .0) (start .pre .1) (loop .i) (loop .depth) (c .loop-test .left))
 
 pub outside-spec : {M : Type 1} → statement M
 outside-spec =

@@ -7,8 +7,8 @@ use Rattle.evaluation.proofs.outcome.conclude.Tie as tie
 
 parse-requires : tie.Need-parse-requires
 parse-requires c κs =
-    let s = c .before .before .before .before .before in
-    s .pre
+    let start = c .before .before .before .before .before in
+    start .pre
 
 enum-told : tie.Need-enum-told
 enum-told c = search needs
@@ -24,29 +24,35 @@ refused-requires-2 c κs = search needs
 
 returns : tie.Need-returns
 returns c =
-    let s = c .before .before .before .before .before .before .before .before .before .before .before .before .before in
-    let u = rw (c .before .before .before .before .before .a .given .1) at (c .before .before .before .before .before .before .before .parse .ensures) in
-    c .refused2 .ensures (s .args .expr .now) (s .args .table .now) ∙ rw (whole-rest u (c .before .if1 .taken))
+    let got = c .before .before .before .before .before in
+    let parse = got .before .before in
+    let start = parse .before .before .before .before .before .before in
+    let parses = rw (got .a .given .1) at (parse .parse .ensures) in
+    c .refused2 .ensures (start .args .expr .now) (start .args .table .now) ∙ rw (whole-rest parses (c .before .if1 .taken))
 
 outside-requires : tie.Need-outside-requires
 outside-requires c κs =
-    let s = c .before .before .before .before .before .before .before .before .before .before .before .before in
-    (s .pre .holding .few, s .pre .holding .codes)
+    let start = c .before .before .before .before .before .before .before .before .before .before .before .before in
+    (start .pre .holding .few, start .pre .holding .codes)
 
 judge-requires : tie.Need-judge-requires
 judge-requires c κs = search needs
 
 returns-2 : tie.Need-returns-2
 returns-2 c =
-    let s = c .before .before .before .before .before .before .before .before .before in
-    let u = rw (c .before .enum-told .given .1) at (c .before .before .before .parse .ensures) in
-    c .refused .ensures (s .args .expr .now) (s .args .table .now) ∙ rw (whole-bad u)
+    let parse = c .before .before .before in
+    let start = parse .before .before .before .before .before .before in
+    let fails = rw (c .before .enum-told .given .1) at (parse .parse .ensures) in
+    c .refused .ensures (start .args .expr .now) (start .args .table .now) ∙ rw (whole-bad fails)
 
 returns-3 : tie.Need-returns-3
 returns-3 c =
-    let s = c .before .before .before .before .before .before .before .before .before .before .before .before .before .before in
-    let u = rw (c .before .before .before .before .before .before .a .given .1) at (c .before .before .before .before .before .before .before .before .parse .ensures) in
-    c .judge .ensures (s .args .expr .now) (s .args .table .now) ∙ rw (c .before .outside .ensures, whole-made u (c .before .before .if1 .left))
+    let got = c .before .before .before .before .before .before in
+    let parse = got .before .before in
+    let start = parse .before .before .before .before .before .before in
+    let parses = rw (got .a .given .1) at (parse .parse .ensures) in
+    let all = c .before .before .if1 .left in
+    c .judge .ensures (start .args .expr .now) (start .args .table .now) ∙ rw (c .before .outside .ensures, whole-made parses all)
 
 pub conclude-spec : {M : Type 1} → statement M
 conclude-spec =

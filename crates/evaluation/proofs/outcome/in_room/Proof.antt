@@ -8,7 +8,8 @@ use Rattle.evaluation.proofs.outcome.in_room.Tie as tie
 
 tokens-requires : tie.Need-tokens-requires
 tokens-requires c κs =
-    c .before .before .before .before .before .before .before .before .before .pre .1
+    let start = c .before .before .before .before .before .before .before .before .before in
+    start .pre .1
 
 enum-known-ending : tie.Need-enum-known-ending
 enum-known-ending c =
@@ -20,10 +21,10 @@ enum-told c =
 
 conclude-requires : tie.Need-conclude-requires
 conclude-requires c κs =
-    let start = c .before .before .before .before .before .before .before .before .before .before .before .before .before .before .before .before .before .before .before .before .before .before .before in
-    let a = start .args in
-    let scan = c .before .before .before .before .before .before .before .before .before .before .before .before .before .tokens in
-    record { sound = start .pre .0; holding = holding (a .expr .now) (a .table .now) (a .codes .now) (a .starts .now) (a .lens .now) (a .values .now) (scan .last .0) (scan .last .1 .0) (scan .last .1 .1 .0) (scan .last .1 .1 .1 .0) (start .pre .1) (scan .ensures .tokens) _ (scan .ensures .count) }
+    let scan = c .before .before .before .before .before .before .before .before .before .before .before .before .before in
+    let start = scan .before .before .before .before .before .before .before .before .before .before in
+    let learnt = scan .tokens .ensures in
+    record { sound = start .pre .0; holding = holding (start .args .expr .now) (start .args .table .now) (start .pre .1) (learnt .tokens) _ (learnt .count) }
 
 same-length : tie.Need-same-length
 same-length c =
@@ -40,8 +41,8 @@ same-length-3 c =
 returns : tie.Need-returns
 unfolding inSoundTable
 returns c =
-    let scan = c .before .before .before .before .before .before .before .before .before .before .tokens in
-    rw (← scan .ensures .ending, c .before .ending .given .1)
+    let scan = c .before .before .before .before .before .before .before .before .before .before in
+    rw (← scan .tokens .ensures .ending, c .before .ending .given .1)
 
 same-length-4 : tie.Need-same-length-4
 same-length-4 c =
@@ -57,11 +58,12 @@ same-length-6 c =
 
 returns-2 : tie.Need-returns-2
 returns-2 c =
-    let start = c .before .before .before .before .before .before .before .before .before .before .before .before .before .before .before .before .before .before .before .before .before .before .before .before in
-    let a = start .args in
-    let scan = c .before .before .before .before .before .before .before .before .before .before .before .before .before .before .tokens in
-    let whole = sym (scan .ensures .ending) ∙ c .before .before .before .before .before .enum-told .given .1 in
-    c .conclude .ensures ∙ answers (a .expr .now) (a .table .now) (a .codes .now) (a .starts .now) (a .lens .now) (a .values .now) (scan .last .0) (scan .last .1 .0) (scan .last .1 .1 .0) (scan .last .1 .1 .1 .0) (start .pre .1) (scan .ensures .tokens) _ (scan .ensures .count) whole
+    let told = c .before .before .before .before .before in
+    let scan = told .before .before .before .before .before .before .before .before .before in
+    let start = scan .before .before .before .before .before .before .before .before .before .before in
+    let learnt = scan .tokens .ensures in
+    let whole = sym (learnt .ending) ∙ told .enum-told .given .1 in
+    c .conclude .ensures ∙ answers (start .args .expr .now) (start .args .table .now) (start .pre .1) (learnt .tokens) _ (learnt .count) whole
 
 pub in-room-spec : {M : Type 1} → statement M
 in-room-spec =

@@ -1,7 +1,9 @@
 -- A short expression has no more tokens than bytes, and any expression at most 200.
+use Prim.Native.Nat.{_≤_}
 use native.Mathlib.Omega.{arith}
-use lib.ListN.{replicate}
+use lib.ListN.{length}
 use borrow.Author.Needs.{needs}
+use Rattle.token.specs.Tokens.{reading}
 use Rattle.token.proofs.Reading.{tokens-of-bytes, most-tokens}
 use Rattle.evaluation.proofs.Arrays.{room-of}
 use Rattle.evaluation.proofs.outcome.in_sound_table.Statement.{statement}
@@ -21,8 +23,11 @@ slice-aggregate-in-room-3 c =
 
 in-room-requires : tie.Need-in-room-requires
 in-room-requires c κs =
-    let start = c .before .before .before .before .before .before .before in
-    (start .pre, room-of (start .args .expr .now) (replicate 200 0) (replicate 32 0) (replicate 32 0) (replicate 32 0) 32 (omega (arith, tokens-of-bytes (start .args .expr .now), c .before .before .before .before .if1 .taken)) (omega arith) (omega arith) (omega arith) (omega arith))
+    let test = c .before .before .before .before in
+    let start = test .before .before .before in
+    let expr = start .args .expr .now in
+    let few : length (reading expr .tokens) ≤ 32 = omega (arith, tokens-of-bytes expr, test .if1 .taken) in
+    (start .pre, room-of expr 32 few (omega arith) (omega arith) (omega arith) (omega arith))
 
 returns : tie.Need-returns
 returns c =
@@ -43,7 +48,8 @@ slice-aggregate-in-room-6 c =
 in-room-requires-2 : tie.Need-in-room-requires-2
 in-room-requires-2 c κs =
     let start = c .before .before .before .before .before .before .before in
-    (start .pre, room-of (start .args .expr .now) (replicate 200 0) (replicate 200 0) (replicate 200 0) (replicate 200 0) 200 (most-tokens (start .args .expr .now)) (omega arith) (omega arith) (omega arith) (omega arith))
+    let expr = start .args .expr .now in
+    (start .pre, room-of expr 200 (most-tokens expr) (omega arith) (omega arith) (omega arith) (omega arith))
 
 returns-2 : tie.Need-returns-2
 returns-2 c =

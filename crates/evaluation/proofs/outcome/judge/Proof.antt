@@ -22,13 +22,17 @@ refused-requires-3 : tie.Need-refused-requires-3
 refused-requires-3 c κs = search needs
 
 returns-3 : tie.Need-returns-3
-returns-3 c = λ e t. rw (c .before .before .before .before .if1 .left, c .before .before .before .if2 .left, ← c .before .before .clashes .ensures, c .before .if3 .taken) (c .refused3 .ensures e t)
+returns-3 c =
+    let test = c .before .before .before in
+    λ e t. rw (test .before .if1 .left, test .if2 .left, ← c .before .before .clashes .ensures, c .before .if3 .taken) (c .refused3 .ensures e t)
 
 finish-requires : tie.Need-finish-requires
 finish-requires c κs = search needs
 
 returns-4 : tie.Need-returns-4
-returns-4 c = λ e t. rw (c .before .before .before .before .if1 .left, c .before .before .before .if2 .left, ← c .before .before .clashes .ensures, c .before .if3 .left) (c .finish .ensures e t)
+returns-4 c =
+    let test = c .before .before .before in
+    λ e t. rw (test .before .if1 .left, test .if2 .left, ← c .before .before .clashes .ensures, c .before .if3 .left) (c .finish .ensures e t)
 
 pub judge-spec : {M : Type 1} → statement M
 judge-spec =

@@ -32,7 +32,9 @@ part-requires-2 : tie.Need-part-requires-2
 part-requires-2 c κs = search needs
 
 returns : tie.Need-returns
-returns c = rw (c .before .before .before .before .a .given .1, c .before .enum-told .given .1) (record { part = c .part .ensures; bytes = c .part .ensures .bytes })
+returns c =
+    let known = c .before .before .before .before in
+    rw (known .a .given .1, c .before .enum-told .given .1) (record { part = c .part .ensures; bytes = c .part .ensures .bytes })
 
 returns-2 : tie.Need-returns-2
 returns-2 c =

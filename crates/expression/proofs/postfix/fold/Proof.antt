@@ -1,25 +1,34 @@
 -- The loop's invariant: with the operands that wait, the entries that are left leave whatever all entries leave. The measure is how many
 -- are left.
-use Prim.Native.Nat.{_+_, _-_, _≤_}
+use Prim.Native.Nat.{ℕ, _+_, _-_, _≤_, _<_}
 use native.Mathlib.Omega.{arith}
 use mathlib.Core.Path.{_≡_, refl, sym, ap, _∙_}
+use mathlib.Core.Bool.{true, false}
+use mathlib.Core.List.{List}
 use lib.ListN.{length}
 use borrow.Author.Needs.{needs}
 use Rattle.value.specs.Places.{known}
 use Rattle.value.specs.Attributes.{primaryOf}
 use Rattle.grammar.specs.Grammar.{isPrimary}
 use Rattle.grammar.proofs.Inside.{primary-inside}
+use Rattle.syntax.specs.Order.{UNARY, FILLER}
 use Rattle.syntax.proofs.Orders.{ended}
 use Rattle.operands.proofs.Piles.{alone, instead}
-use Rattle.expression.specs.Postfix.{operand, unary, binary, choice, skip, primaryIn}
-use Rattle.expression.proofs.Entries.{Work, Rest, Next, begun, is-unary, is-operand, is-skip, is-choice, is-binary, opened, closed, operand-room, unary-finds, binary-finds, choice-finds, skip-on, operand-on, unary-on, binary-on, choice-on}
+use Rattle.expression.specs.Postfix.{codeIn, Entry, operand, unary, binary, choice, filler, entryOf}
+use Rattle.expression.proofs.Entries.{Work, Rest, Next, begun, is-unary, is-operand, is-filler, is-choice, is-binary, opened, closed, operand-room, unary-finds, binary-finds, choice-finds, filler-on, operand-on, unary-on, binary-on, choice-on}
 use Rattle.expression.proofs.postfix.fold.Statement.{statement}
 use Rattle.expression.proofs.postfix.fold.Tie as tie
 
+-- p entries are done, and `top` operands wait
+record Working (k : Work) (waiting : List (List ℕ)) (top p : ℕ) : Type 0 where
+  entries : p ≤ k .filled
+  room : top ≤ k .most
+  long : length waiting ≡ k .most
+  rest : Rest k waiting top p
+
 abbrev Inv-loop : tie.InvT-loop
 Inv-loop waiting₀ expr table codes starts lens values n order filled top₀ p₀ waiting top p =
-    (p ≤ filled) × (top ≤ length waiting₀) × (length waiting ≡ length waiting₀)
-    × Rest (record {
+    Working (record {
       i = record { e = expr; t = table; codes = codes; starts = starts; lens = lens; values = values; n = n .0 };
       most = length waiting₀;
       order = order;
@@ -46,259 +55,313 @@ work s =
       filled = s .args .filled;
     }
 
--- what the entry at hand stands for, in each arm
-found-unary : (c : tie.Then1 Inv-loop μ-loop) → Next (work (c .before .before .before .before .before .before .before .before .before .before)) unary (c .before .wide .result) (c .before .before .before .before .loop .waiting) (c .before .before .before .before .loop .top) (c .before .before .before .before .loop .p)
+-- Where an entry was read: the loop, what its test says, the start, the entry's number and the code of its token. Every arm goes on from there.
+abbrev EntryRead : Type 0
+EntryRead = tie.After-entry-number Inv-loop μ-loop
+
+abbrev start-of : EntryRead → tie.Start Inv-loop μ-loop
+start-of entry = entry .before .before .before .before .before .before .before .before .before
+
+abbrev number : EntryRead → ℕ
+number entry = entry .entry-number .result
+
+abbrev code : EntryRead → ℕ
+code entry = codeIn (work (start-of entry) .i) (number entry)
+
+-- the entry stands for y
+abbrev Is : Entry → EntryRead → Type 0
+Is y entry =
+    let loop = entry .before .before .before .loop in
+    Next (work (start-of entry)) y (number entry) (loop .waiting) (loop .top) (loop .p)
+
+is : (y : Entry) (entry : EntryRead) → entryOf (work (start-of entry) .i) (number entry) ≡ y → Is y entry
+is y entry e =
+    let start = start-of entry in
+    let loop = entry .before .before .before .loop in
+    let inside = entry .before .before .loop-test .taken in
+    opened y (number entry) inside (omega (arith, start .pre .all, start .pre .long)) (entry .entry-number .ensures) e (loop .inv .rest)
+
+-- whether its token is a primary
+primary : (c : tie.Then2 Inv-loop μ-loop) → isPrimary (code (c .before .before .before .before)) ≡ true
+primary c = ap isPrimary (sym (c .before .before .code-at2 .ensures)) ∙ sym (c .before .is-primary .ensures) ∙ c .if2 .taken
+
+no-primary : (c : tie.Else2 Inv-loop μ-loop) → isPrimary (code (c .before .before .before .before)) ≡ false
+no-primary c = ap isPrimary (sym (c .before .before .code-at2 .ensures)) ∙ sym (c .before .is-primary .ensures) ∙ c .if2 .left
+
+-- it is no unary operator
+no-unary : (c : tie.Else1 Inv-loop μ-loop) → number (c .before) < UNARY
+no-unary c = c .if1 .left
+
+-- it is no filler
+no-filler : (c : tie.Then3 Inv-loop μ-loop) → number (c .before .before .before .before .before) ≡ FILLER → ⊥
+no-filler c q = c .if3 .taken (sym (c .before .before .before .before .before .entry-number .ensures) ∙ q)
+
+-- what it stands for, in each arm
+found-unary : (c : tie.Then1 Inv-loop μ-loop) → Is unary (c .before)
 found-unary c =
-    let start = c .before .before .before .before .before .before .before .before .before .before in
-    let loop = c .before .before .before .before .loop in
-    let x = c .before .wide in
-    opened unary (x .result) (c .before .before .before .loop-test .taken) (omega (arith, start .pre .all, start .pre .long)) (x .ensures) (is-unary (work start .i) (x .result) (c .if1 .taken)) (loop .inv .3)
+    let entry = c .before in
+    is unary entry (is-unary (work (start-of entry) .i) (number entry) (c .if1 .taken))
 
-found-operand : (c : tie.Then2 Inv-loop μ-loop) → Next (work (c .before .before .before .before .before .before .before .before .before .before .before .before .before)) operand (c .before .before .before .before .wide .result) (c .before .before .before .before .before .before .before .loop .waiting) (c .before .before .before .before .before .before .before .loop .top) (c .before .before .before .before .before .before .before .loop .p)
+found-operand : (c : tie.Then2 Inv-loop μ-loop) → Is operand (c .before .before .before .before)
 found-operand c =
-    let start = c .before .before .before .before .before .before .before .before .before .before .before .before .before in
-    let loop = c .before .before .before .before .before .before .before .loop in
-    let x = c .before .before .before .before .wide in
-    opened operand (x .result) (c .before .before .before .before .before .before .loop-test .taken) (omega (arith, start .pre .all, start .pre .long)) (x .ensures) (is-operand (work start .i) (x .result) (c .before .before .before .if1 .left) (ap isPrimary (sym (c .before .before .code-at2 .ensures)) ∙ sym (c .before .is-primary .ensures) ∙ c .if2 .taken)) (loop .inv .3)
+    let entry = c .before .before .before .before in
+    is operand entry (is-operand (work (start-of entry) .i) (number entry) (no-unary (c .before .before .before)) (primary c))
 
-found-choice : (c : tie.Then4 Inv-loop μ-loop) → Next (work (c .before .before .before .before .before .before .before .before .before .before .before .before .before .before .before)) choice (c .before .before .before .before .before .before .wide .result) (c .before .before .before .before .before .before .before .before .before .loop .waiting) (c .before .before .before .before .before .before .before .before .before .loop .top) (c .before .before .before .before .before .before .before .before .before .loop .p)
+found-choice : (c : tie.Then4 Inv-loop μ-loop) → Is choice (c .before .before .before .before .before .before)
 found-choice c =
-    let start = c .before .before .before .before .before .before .before .before .before .before .before .before .before .before .before in
-    let loop = c .before .before .before .before .before .before .before .before .before .loop in
-    let x = c .before .before .before .before .before .before .wide in
-    opened choice (x .result) (c .before .before .before .before .before .before .before .before .loop-test .taken) (omega (arith, start .pre .all, start .pre .long)) (x .ensures) (is-choice (work start .i) (x .result) (c .before .before .before .before .before .if1 .left) (ap isPrimary (sym (c .before .before .before .before .code-at2 .ensures)) ∙ sym (c .before .before .before .is-primary .ensures) ∙ c .before .before .if2 .left) (λ q. c .before .if3 .taken (sym (x .ensures) ∙ q)) (sym (c .before .before .before .before .code-at2 .ensures) ∙ c .if4 .taken)) (loop .inv .3)
+    let entry = c .before .before .before .before .before .before in
+    let read = c .before .before .before .before in
+    let question = sym (read .code-at2 .ensures) ∙ c .if4 .taken in
+    is choice entry
+    (is-choice (work (start-of entry) .i) (number entry) (no-unary (read .before)) (no-primary (c .before .before)) (no-filler (c .before)) question)
 
-found-binary : (c : tie.Else4 Inv-loop μ-loop) → Next (work (c .before .before .before .before .before .before .before .before .before .before .before .before .before .before .before)) binary (c .before .before .before .before .before .before .wide .result) (c .before .before .before .before .before .before .before .before .before .loop .waiting) (c .before .before .before .before .before .before .before .before .before .loop .top) (c .before .before .before .before .before .before .before .before .before .loop .p)
+found-binary : (c : tie.Else4 Inv-loop μ-loop) → Is binary (c .before .before .before .before .before .before)
 found-binary c =
-    let start = c .before .before .before .before .before .before .before .before .before .before .before .before .before .before .before in
-    let loop = c .before .before .before .before .before .before .before .before .before .loop in
-    let x = c .before .before .before .before .before .before .wide in
-    opened binary (x .result) (c .before .before .before .before .before .before .before .before .loop-test .taken) (omega (arith, start .pre .all, start .pre .long)) (x .ensures) (is-binary (work start .i) (x .result) (c .before .before .before .before .before .if1 .left) (ap isPrimary (sym (c .before .before .before .before .code-at2 .ensures)) ∙ sym (c .before .before .before .is-primary .ensures) ∙ c .before .before .if2 .left) (λ q. c .before .if3 .taken (sym (x .ensures) ∙ q)) (λ q. c .if4 .left (c .before .before .before .before .code-at2 .ensures ∙ q))) (loop .inv .3)
+    let entry = c .before .before .before .before .before .before in
+    let read = c .before .before .before .before in
+    is binary entry
+    (is-binary (work (start-of entry) .i) (number entry) (no-unary (read .before)) (no-primary (c .before .before)) (no-filler (c .before))
+    (λ q. c .if4 .left (read .code-at2 .ensures ∙ q)))
 
-found-skip : (c : tie.Else3 Inv-loop μ-loop) → Next (work (c .before .before .before .before .before .before .before .before .before .before .before .before .before .before)) skip (c .before .before .before .before .before .wide .result) (c .before .before .before .before .before .before .before .before .loop .waiting) (c .before .before .before .before .before .before .before .before .loop .top) (c .before .before .before .before .before .before .before .before .loop .p)
-found-skip c =
-    let start = c .before .before .before .before .before .before .before .before .before .before .before .before .before .before in
-    let loop = c .before .before .before .before .before .before .before .before .loop in
-    let x = c .before .before .before .before .before .wide in
-    opened skip (x .result) (c .before .before .before .before .before .before .before .loop-test .taken) (omega (arith, start .pre .all, start .pre .long)) (x .ensures) (is-skip (work start .i) (x .result) (c .before .before .before .before .if1 .left) (ap isPrimary (sym (c .before .before .before .code-at2 .ensures)) ∙ sym (c .before .before .is-primary .ensures) ∙ c .before .if2 .left) (x .ensures ∙ c .if3 .left)) (loop .inv .3)
+found-filler : (c : tie.Else3 Inv-loop μ-loop) → Is filler (c .before .before .before .before .before)
+found-filler c =
+    let entry = c .before .before .before .before .before in
+    is filler entry
+    (is-filler (work (start-of entry) .i) (number entry) (no-unary (c .before .before .before .before)) (no-primary (c .before))
+    (entry .entry-number .ensures ∙ c .if3 .left))
 
 loop-holds : tie.Need-loop-holds Inv-loop μ-loop
 loop-holds c =
     let start = c .before .before .before .before .before in
-    (omega arith, omega arith, refl, begun (work start) (start .args .waiting .now))
+    record { entries = omega arith; room = omega arith; long = refl; rest = begun (work start) (start .args .waiting .now) }
 
 mul-e : tie.Need-mul-e Inv-loop μ-loop
 mul-e c =
     let start = c .before .before .before .before .before .before .before in
-    let loop = c .before .loop in
-    let test = c .loop-test in
-    omega (arith, start .pre .all, test .taken)
+    omega (arith, start .pre .all, c .loop-test .taken)
 
 element-copy-out-e : tie.Need-element-copy-out-e Inv-loop μ-loop
 element-copy-out-e c =
     let start = c .before .before .before .before .before .before .before in
-    let loop = c .before .loop in
-    let test = c .loop-test in
-    omega (arith, start .pre .all, start .pre .long, test .taken)
+    omega (arith, start .pre .all, start .pre .long, c .loop-test .taken)
 
-wide-requires : tie.Need-wide-requires Inv-loop μ-loop
-wide-requires c κs =
-    search needs
+entry-number-requires : tie.Need-entry-number-requires Inv-loop μ-loop
+entry-number-requires c κs = search needs
 
 add-p : tie.Need-add-p Inv-loop μ-loop
-add-p c =
-    let start = c .before .before .before .before .before .before .before .before .before in
-    let loop = c .before .before .before .loop in
-    let test = c .before .before .loop-test in
-    omega (arith, start .pre .all, test .taken)
+add-p entry =
+    let start = start-of entry in
+    omega (arith, start .pre .all, entry .before .before .loop-test .taken)
 
 code-at-requires : tie.Need-code-at-requires Inv-loop μ-loop
 code-at-requires c κs =
-    let start = c .before .before .before .before .before .before .before .before .before .before in
+    let start = start-of (c .before) in
     start .pre .ready .holding .few
 
 sub-unary : tie.Need-sub-unary Inv-loop μ-loop
 sub-unary c =
-    let start = c .before .before .before .before .before .before .before .before .before .before .before .before in
-    let loop = c .before .before .before .before .before .before .loop in
-    omega (arith, unary-finds (found-unary (c .before .before)) (start .pre .value) (start .pre .gives))
+    let here = c .before .before in
+    let start = start-of (here .before) in
+    omega (arith, unary-finds (found-unary here) (start .pre .value) (start .pre .gives))
 
 unary-requires : tie.Need-unary-requires Inv-loop μ-loop
 unary-requires c κs =
-    let start = c .before .before .before .before .before .before .before .before .before .before .before .before in
-    let loop = c .before .before .before .before .before .before .loop in
-    let finds = unary-finds (found-unary (c .before .before)) (start .pre .value) (start .pre .gives) in
-    (omega (arith, finds .0, loop .inv .1, loop .inv .2), finds .1)
+    let here = c .before .before in
+    let entry = here .before in
+    let start = start-of entry in
+    let inv = entry .before .before .before .loop .inv in
+    let finds = unary-finds (found-unary here) (start .pre .value) (start .pre .gives) in
+    (omega (arith, finds .0, inv .room, inv .long), finds .1)
 
 loop-less : tie.Need-loop-less Inv-loop μ-loop
 loop-less c =
-    let test = c .before .before .before .before .before .before .before .loop-test in
-    omega (arith, test .taken)
+    let entry = c .before .before .before .before .before in
+    omega (arith, entry .before .before .loop-test .taken)
 
 loop-again : tie.Need-loop-again Inv-loop μ-loop
 loop-again c =
-    let start = c .before .before .before .before .before .before .before .before .before .before .before .before .before .before in
-    let loop = c .before .before .before .before .before .before .before .before .loop in
-    let test = c .before .before .before .before .before .before .before .loop-test in
-    let left = c .before .unary .ensures (start .args .expr .now) (start .args .table .now) in (
-      omega (arith, test .taken),
-      loop .inv .1,
-      left .long ∙ loop .inv .2,
-      unary-on _ (c .before .before .before .code-at .result) (c .before .before .before .code-at .ensures) (found-unary (c .before .before .before .before)) left,
-    )
+    let call = c .before in
+    let here = call .before .before .before in
+    let entry = here .before in
+    let start = start-of entry in
+    let inv = entry .before .before .before .loop .inv in
+    let code = call .before .before .code-at in
+    let left = call .unary .ensures (start .args .expr .now) (start .args .table .now) in
+    record {
+      entries = omega (arith, entry .before .before .loop-test .taken);
+      room = inv .room;
+      long = left .long ∙ inv .long;
+      rest = unary-on _ (code .result) (code .ensures) (found-unary here) left;
+    }
 
 code-at-requires-2 : tie.Need-code-at-requires-2 Inv-loop μ-loop
 code-at-requires-2 c κs =
-    let start = c .before .before .before .before .before .before .before .before .before .before in
+    let start = start-of (c .before) in
     start .pre .ready .holding .few
 
 is-primary-requires : tie.Need-is-primary-requires Inv-loop μ-loop
-is-primary-requires c κs =
-    search needs
+is-primary-requires c κs = search needs
 
 token-at-requires : tie.Need-token-at-requires Inv-loop μ-loop
 token-at-requires c κs =
-    let start = c .before .before .before .before .before .before .before .before .before .before .before .before .before in
-    (start .pre .ready .holding, primary-inside (ended (start .args .codes .now) (start .args .n .0)) (c .before .before .before .before .wide .result) (ap isPrimary (sym (c .before .before .code-at2 .ensures)) ∙ sym (c .before .is-primary .ensures) ∙ c .if2 .taken))
+    let entry = c .before .before .before .before in
+    let start = start-of entry in
+    (start .pre .ready .holding, primary-inside (ended (start .args .codes .now) (start .args .n .0)) (number entry) (primary c))
 
 of-primary-requires : tie.Need-of-primary-requires Inv-loop μ-loop
 of-primary-requires c κs =
-    let start = c .before .before .before .before .before .before .before .before .before .before .before .before .before .before .before in
+    let start = start-of (c .before .before .before .before .before .before) in
     start .pre .ready .sound
 
 store-requires : tie.Need-store-requires Inv-loop μ-loop
 store-requires c κs =
-    let start = c .before .before .before .before .before .before .before .before .before .before .before .before .before .before .before .before in
-    let loop = c .before .before .before .before .before .before .before .before .before .before .loop in
-    omega (arith, operand-room (found-operand (c .before .before .before)) (start .pre .value) (start .pre .gives), loop .inv .2)
+    let here = c .before .before .before in
+    let entry = here .before .before .before .before in
+    let start = start-of entry in
+    omega (arith, operand-room (found-operand here) (start .pre .value) (start .pre .gives), entry .before .before .before .loop .inv .long)
 
 add-top : tie.Need-add-top Inv-loop μ-loop
 add-top c =
-    let start = c .before .before .before .before .before .before .before .before .before .before .before .before .before .before .before .before .before .before in
-    let loop = c .before .before .before .before .before .before .before .before .before .before .before .before .loop in
-    omega (arith, operand-room (found-operand (c .before .before .before .before .before)) (start .pre .value) (start .pre .gives))
+    let here = c .before .before .before .before .before in
+    let start = start-of (here .before .before .before .before) in
+    omega (arith, operand-room (found-operand here) (start .pre .value) (start .pre .gives))
 
 loop-less-2 : tie.Need-loop-less-2 Inv-loop μ-loop
 loop-less-2 c =
-    let test = c .before .before .before .before .before .before .before .before .before .before .before .loop-test in
-    omega (arith, test .taken)
+    let entry = c .before .before .before .before .before .before .before .before .before in
+    omega (arith, entry .before .before .loop-test .taken)
 
 loop-again-2 : tie.Need-loop-again-2 Inv-loop μ-loop
 loop-again-2 c =
-    let start = c .before .before .before .before .before .before .before .before .before .before .before .before .before .before .before .before .before .before in
-    let loop = c .before .before .before .before .before .before .before .before .before .before .before .before .loop in
-    let test = c .before .before .before .before .before .before .before .before .before .before .before .loop-test in
-    let left = c .before .store .ensures (start .args .expr .now) (start .args .table .now) in
-    let room = operand-room (found-operand (c .before .before .before .before .before)) (start .pre .value) (start .pre .gives) in
-    let made = c .before .before .of-primary .ensures ∙ ap (primaryOf (start .args .expr .now) (start .args .table .now)) (c .before .before .before .before .token-at .ensures) in (
-      omega (arith, test .taken),
-      omega (arith, room),
-      left .long ∙ loop .inv .2,
-      operand-on _ (found-operand (c .before .before .before .before .before)) (instead made left),
-    )
+    let call = c .before in
+    let here = call .before .before .before .before in
+    let entry = here .before .before .before .before in
+    let start = start-of entry in
+    let inv = entry .before .before .before .loop .inv in
+    let left = call .store .ensures (start .args .expr .now) (start .args .table .now) in
+    let token = call .before .before .before .token-at .ensures in
+    let made = call .before .of-primary .ensures ∙ ap (primaryOf (start .args .expr .now) (start .args .table .now)) token in
+    record {
+      entries = omega (arith, entry .before .before .loop-test .taken);
+      room = omega (arith, operand-room (found-operand here) (start .pre .value) (start .pre .gives));
+      long = left .long ∙ inv .long;
+      rest = operand-on _ (found-operand here) (instead made left);
+    }
 
 sub-choice : tie.Need-sub-choice Inv-loop μ-loop
 sub-choice c =
-    let start = c .before .before .before .before .before .before .before .before .before .before .before .before .before .before .before .before in
-    let loop = c .before .before .before .before .before .before .before .before .before .before .loop in
-    omega (arith, choice-finds (found-choice (c .before)) (start .pre .value) (start .pre .gives))
+    let here = c .before in
+    let start = start-of (here .before .before .before .before .before .before) in
+    omega (arith, choice-finds (found-choice here) (start .pre .value) (start .pre .gives))
 
 choice-requires : tie.Need-choice-requires Inv-loop μ-loop
 choice-requires c κs =
-    let start = c .before .before .before .before .before .before .before .before .before .before .before .before .before .before .before .before in
-    let loop = c .before .before .before .before .before .before .before .before .before .before .loop in
-    let finds = choice-finds (found-choice (c .before)) (start .pre .value) (start .pre .gives) in
-    (omega (arith, finds .0, loop .inv .1, loop .inv .2), finds .1)
+    let here = c .before in
+    let entry = here .before .before .before .before .before .before in
+    let start = start-of entry in
+    let inv = entry .before .before .before .loop .inv in
+    let finds = choice-finds (found-choice here) (start .pre .value) (start .pre .gives) in
+    (omega (arith, finds .0, inv .room, inv .long), finds .1)
 
 sub-top : tie.Need-sub-top Inv-loop μ-loop
 sub-top c =
-    let start = c .before .before .before .before .before .before .before .before .before .before .before .before .before .before .before .before .before .before in
-    let loop = c .before .before .before .before .before .before .before .before .before .before .before .before .loop in
-    omega (arith, choice-finds (found-choice (c .before .before .before)) (start .pre .value) (start .pre .gives))
+    let here = c .before .before .before in
+    let start = start-of (here .before .before .before .before .before .before) in
+    omega (arith, choice-finds (found-choice here) (start .pre .value) (start .pre .gives))
 
 loop-less-3 : tie.Need-loop-less-3 Inv-loop μ-loop
 loop-less-3 c =
-    let test = c .before .before .before .before .before .before .before .before .before .before .before .loop-test in
-    omega (arith, test .taken)
+    let entry = c .before .before .before .before .before .before .before .before .before in
+    omega (arith, entry .before .before .loop-test .taken)
 
 loop-again-3 : tie.Need-loop-again-3 Inv-loop μ-loop
 loop-again-3 c =
-    let start = c .before .before .before .before .before .before .before .before .before .before .before .before .before .before .before .before .before .before in
-    let loop = c .before .before .before .before .before .before .before .before .before .before .before .before .loop in
-    let test = c .before .before .before .before .before .before .before .before .before .before .before .loop-test in
-    let left = c .before .choice .ensures (start .args .expr .now) (start .args .table .now) in (
-      omega (arith, test .taken),
-      omega (arith, loop .inv .1),
-      left .long ∙ loop .inv .2,
-      choice-on _ (found-choice (c .before .before .before)) left,
-    )
+    let call = c .before in
+    let here = call .before .before in
+    let entry = here .before .before .before .before .before .before in
+    let start = start-of entry in
+    let inv = entry .before .before .before .loop .inv in
+    let left = call .choice .ensures (start .args .expr .now) (start .args .table .now) in
+    record {
+      entries = omega (arith, entry .before .before .loop-test .taken);
+      room = omega (arith, inv .room);
+      long = left .long ∙ inv .long;
+      rest = choice-on _ (found-choice here) left;
+    }
 
 sub-binary : tie.Need-sub-binary Inv-loop μ-loop
 sub-binary c =
-    let start = c .before .before .before .before .before .before .before .before .before .before .before .before .before .before .before .before in
-    let loop = c .before .before .before .before .before .before .before .before .before .before .loop in
-    omega (arith, binary-finds (found-binary (c .before)) (start .pre .value) (start .pre .gives))
+    let here = c .before in
+    let start = start-of (here .before .before .before .before .before .before) in
+    omega (arith, binary-finds (found-binary here) (start .pre .value) (start .pre .gives))
 
 binary-requires : tie.Need-binary-requires Inv-loop μ-loop
 binary-requires c κs =
-    let start = c .before .before .before .before .before .before .before .before .before .before .before .before .before .before .before .before in
-    let loop = c .before .before .before .before .before .before .before .before .before .before .loop in
-    let finds = binary-finds (found-binary (c .before)) (start .pre .value) (start .pre .gives) in
-    (omega (arith, finds .0, loop .inv .1, loop .inv .2), finds .1)
+    let here = c .before in
+    let entry = here .before .before .before .before .before .before in
+    let start = start-of entry in
+    let inv = entry .before .before .before .loop .inv in
+    let finds = binary-finds (found-binary here) (start .pre .value) (start .pre .gives) in
+    (omega (arith, finds .0, inv .room, inv .long), finds .1)
 
 sub-top-2 : tie.Need-sub-top-2 Inv-loop μ-loop
 sub-top-2 c =
-    let start = c .before .before .before .before .before .before .before .before .before .before .before .before .before .before .before .before .before .before in
-    let loop = c .before .before .before .before .before .before .before .before .before .before .before .before .loop in
-    omega (arith, binary-finds (found-binary (c .before .before .before)) (start .pre .value) (start .pre .gives))
+    let here = c .before .before .before in
+    let start = start-of (here .before .before .before .before .before .before) in
+    omega (arith, binary-finds (found-binary here) (start .pre .value) (start .pre .gives))
 
 loop-less-4 : tie.Need-loop-less-4 Inv-loop μ-loop
 loop-less-4 c =
-    let test = c .before .before .before .before .before .before .before .before .before .before .before .loop-test in
-    omega (arith, test .taken)
+    let entry = c .before .before .before .before .before .before .before .before .before in
+    omega (arith, entry .before .before .loop-test .taken)
 
 loop-again-4 : tie.Need-loop-again-4 Inv-loop μ-loop
 loop-again-4 c =
-    let start = c .before .before .before .before .before .before .before .before .before .before .before .before .before .before .before .before .before .before in
-    let loop = c .before .before .before .before .before .before .before .before .before .before .before .before .loop in
-    let test = c .before .before .before .before .before .before .before .before .before .before .before .loop-test in
-    let left = c .before .binary .ensures in (
-      omega (arith, test .taken),
-      omega (arith, loop .inv .1),
-      left .long ∙ loop .inv .2,
-      binary-on _ (c .before .before .before .before .before .before .before .code-at2 .result) (c .before .before .before .before .before .before .before .code-at2 .ensures) (found-binary (c .before .before .before)) left,
-    )
+    let call = c .before in
+    let here = call .before .before in
+    let entry = here .before .before .before .before .before .before in
+    let inv = entry .before .before .before .loop .inv in
+    let code = here .before .before .before .before .code-at2 in
+    let left = call .binary .ensures in
+    record {
+      entries = omega (arith, entry .before .before .loop-test .taken);
+      room = omega (arith, inv .room);
+      long = left .long ∙ inv .long;
+      rest = binary-on _ (code .result) (code .ensures) (found-binary here) left;
+    }
 
 loop-less-5 : tie.Need-loop-less-5 Inv-loop μ-loop
 loop-less-5 c =
-    let test = c .before .before .before .before .before .before .before .loop-test in
-    omega (arith, test .taken)
+    let entry = c .before .before .before .before .before in
+    omega (arith, entry .before .before .loop-test .taken)
 
 loop-again-5 : tie.Need-loop-again-5 Inv-loop μ-loop
 loop-again-5 c =
-    let loop = c .before .before .before .before .before .before .before .before .loop in
-    let test = c .before .before .before .before .before .before .before .loop-test in
-    (omega (arith, test .taken), loop .inv .1, loop .inv .2, skip-on (found-skip c))
+    let entry = c .before .before .before .before .before in
+    let inv = entry .before .before .before .loop .inv in
+    record { entries = omega (arith, entry .before .before .loop-test .taken); room = inv .room; long = inv .long; rest = filler-on (found-filler c) }
 
 load-requires : tie.Need-load-requires Inv-loop μ-loop
 load-requires c κs =
-    let start = c .before .before .before .before .before .before .before .before in
     let loop = c .before .before .loop in
-    let test = c .before .loop-test in
-    let one = alone (start .args .expr .now) (start .args .table .now) (loop .waiting) (loop .top) (start .pre .value) (closed (omega (arith, test .left, loop .inv .0)) (loop .inv .3) (start .pre .value) (start .pre .gives)) in
-    omega (arith, one .0, loop .inv .1, loop .inv .2)
+    let start = c .before .before .before .before .before .before .before .before in
+    let inv = loop .inv in
+    let shape = closed (omega (arith, c .before .loop-test .left, inv .entries)) (inv .rest) (start .pre .value) (start .pre .gives) in
+    let one = alone (start .args .expr .now) (start .args .table .now) (loop .waiting) (loop .top) (start .pre .value) shape in
+    omega (arith, one .0, inv .room, inv .long)
 
 same-length : tie.Need-same-length Inv-loop μ-loop
-same-length c =
-    let loop = c .before .before .before .loop in
-    loop .inv .2
+same-length c = c .before .before .before .loop .inv .long
 
 returns : tie.Need-returns Inv-loop μ-loop
 returns c =
-    let start = c .before .before .before .before .before .before .before .before .before in
     let loop = c .before .before .before .loop in
-    let test = c .before .before .loop-test in
-    λ v g. ap (known (start .args .expr .now) (start .args .table .now)) (c .load .ensures) ∙ alone (start .args .expr .now) (start .args .table .now) (loop .waiting) (loop .top) v (closed (omega (arith, test .left, loop .inv .0)) (loop .inv .3) v g) .1
+    let start = c .before .before .before .before .before .before .before .before .before in
+    let inv = loop .inv in
+    λ v g.
+    let shape = closed (omega (arith, c .before .before .loop-test .left, inv .entries)) (inv .rest) v g in
+    let one = alone (start .args .expr .now) (start .args .table .now) (loop .waiting) (loop .top) v shape in
+    ap (known (start .args .expr .now) (start .args .table .now)) (c .load .ensures) ∙ one .1
 
 pub fold-spec : {M : Type 1} → statement M
 fold-spec =
@@ -309,7 +372,7 @@ fold-spec =
     loop-holds
     mul-e
     element-copy-out-e
-    wide-requires
+    entry-number-requires
     add-p
     code-at-requires
     sub-unary

@@ -16,7 +16,9 @@ number-of-flag-requires-2 : tie.Need-number-of-flag-requires-2
 number-of-flag-requires-2 c κs = search needs
 
 returns : tie.Need-returns
-returns c = rw (c .before .before .number-of-kind .ensures, c .before .number-of-flag .ensures, ← c .before .before .before .shape-of .ensures, c .number-of-flag2 .ensures)
+returns c =
+    let kind = c .before .before in
+    rw (kind .number-of-kind .ensures, c .before .number-of-flag .ensures, ← kind .before .shape-of .ensures, c .number-of-flag2 .ensures)
 
 pub encode-spec : {M : Type 1} → statement M
 encode-spec =

@@ -3,16 +3,19 @@
 use Prim.Native.Nat.{ℕ, suc, _+_, _*_, _-_, _≤_, _<_}
 use native.Mathlib.Omega.{arith}
 use mathlib.Core.Path.{_≡_, sym, ap, _∙_}
-use mathlib.Core.List.{[], _∷_, _++_, append-nil, append-assoc}
+use mathlib.Core.Bool.{true}
+use mathlib.Core.List.{[], _∷_, _++_, append-nil}
 use lib.ListN.{length, take}
 use borrow.Author.Needs.{needs}
+use Rattle.lexeme.specs.Codes.{OPEN, QUESTION, COLON}
 use Rattle.grammar.specs.Grammar.{isPrimary, levelOf}
 use Rattle.grammar.proofs.Inside.{code-inside, primary-inside, level-inside}
-use Rattle.grammar.proofs.Steps.{moved, primary-leaf, primary-none, parentheses-bad, parentheses-open, parentheses-closed, unary-none, expression-bad, choice-none, choice-bad-first, choice-no-colon, choice-bad-second, choice-made}
-use Rattle.grammar.proofs.Climb.{nothing, joined-bad, joined, found-bad, climbed}
-use Rattle.syntax.specs.Order.{codeAt}
+use Rattle.grammar.proofs.Steps.{primary-leaf, primary-none, parentheses-bad, parentheses-open, parentheses-closed, unary-none, expression-bad, choice-none, choice-bad-first, choice-no-colon, choice-bad-second, choice-made}
+use Rattle.grammar.proofs.Climb.{found-bad}
+use Rattle.syntax.specs.Order.{codeAt, FILLER}
 use Rattle.syntax.specs.Descent.{back}
-use Rattle.syntax.proofs.Orders.{ended, put, put-long, handed, faulty, found, Grown, after, chosen, applied, wrong}
+use Rattle.syntax.proofs.Orders.{ended, put, put-long, handed, faulty, found, both, passed, extra, onward, chosen, applied, wrong}
+use Rattle.syntax.proofs.Climbing.{read, Grown, begun, stays, room, refused, extended}
 use borrow.Fn.Kinds.{In}
 use borrow.Fn.PlainCycle.{Measures, is, falls, and}
 use Rattle.syntax.proofs.descent.level.Reads as level
@@ -30,9 +33,9 @@ use Rattle.syntax.proofs.descent.+level+primary+unary+whole.Lts-whole a
 use Rattle.syntax.proofs.tokens.code_at.Reads as code-at-reads
 use Rattle.syntax.proofs.tokens.is_primary.Reads as is-primary-reads
 use Rattle.syntax.proofs.tokens.level_of.Reads as level-of-reads
-use Rattle.syntax.proofs.descent.place.Reads as place-reads
+use Rattle.syntax.proofs.descent.append.Reads as append-reads
 use Rattle.syntax.proofs.descent.run_end.Reads as run-end-reads
-use Rattle.syntax.proofs.descent.signs.Reads as signs-reads
+use Rattle.syntax.proofs.descent.append_run.Reads as append-run-reads
 use Rattle.syntax.proofs.descent.+level+primary+unary+whole.{statement}
 use Rattle.syntax.proofs.descent.+level+primary+unary+whole.Tie.{close}
 
@@ -73,405 +76,7 @@ abbrev whole-below : ℕ → In 3 whole-kinds.ps
 whole-below t = and 3 whole-kinds.ps (falls 3 whole-kinds.ps _<_ μ-whole t) whole.Pre
 
 abbrev level-claims : ℕ → level-lts.Claims
-level-claims t = (unary-below t, unary.Post, code-at-reads.Asked, code-at-reads.Learnt, level-of-reads.Asked, level-of-reads.Learnt, level-below t, level.Post, place-reads.Asked, place-reads.Learnt)
-
-abbrev level-Inv-loop : level-lts.InvT-loop
-level-Inv-loop order₀ filled₀ codes n k at₀ low₀ order filled at low =
-    (1 ≤ low) × (low ≤ k) × (at₀ ≤ at) × (at ≤ n .0) × (filled + at₀ ≤ filled₀ + at) × (length order ≡ 200) × Grown codes (n .0) k at₀ filled₀ order₀ low at filled order
-
-abbrev level-μ-loop : level-lts.MeasureT-loop
-level-μ-loop order₀ filled₀ codes n k at₀ low₀ order filled at low = n .0 - at
-
-level-unary-requires : (t : ℕ) → level-lts.Need-unary-requires (level-claims t) (level-at t) level.Post level-Inv-loop level-μ-loop
-level-unary-requires t c κs =
-    let s = c .before .before in
-    (omega (arith, s .pre .0), record { few = s .pre .1 .0 .few; within = s .pre .1 .0 .within; room = s .pre .1 .0 .room; long = s .pre .1 .0 .long })
-
-level-returns : (t : ℕ) → level-lts.Need-returns (level-claims t) (level-at t) level.Post level-Inv-loop level-μ-loop
-level-returns t c =
-    let s = c .before .before .before .before in
-    handed (c .if1 .taken) (found-bad (ended (s .args .codes .now) (s .args .n .0)) (s .args .i .0) ((s .args .k) - 1) 1 (s .args .k) (omega (arith, s .pre .1 .1)) (omega arith) _ (c .before .unary .ensures .wrong (c .if1 .taken)))
-
-level-loop-holds : (t : ℕ) → level-lts.Need-loop-holds (level-claims t) (level-at t) level.Post level-Inv-loop level-μ-loop
-level-loop-holds t c =
-    let s = c .before .before .before .before in
-    let p = c .before .unary .ensures .right (c .if1 .left) in
-    let q = moved (ended (s .args .codes .now) (s .args .n .0)) (p .made) (omega arith) in
-    (omega arith, s .pre .1 .1, omega arith, q .1, omega arith, p .long, record { more = []; held = sym (append-nil (take (c .before .unary .last .1 .0) (c .before .unary .last .0))); goes = λ a r v. rw (append-nil a) at v })
-
-level-code-at-requires : (t : ℕ) → level-lts.Need-code-at-requires (level-claims t) (level-at t) level.Post level-Inv-loop level-μ-loop
-level-code-at-requires t c κs =
-    let s = c .before .before .before .before .before in
-    s .pre .1 .0 .few
-
-level-level-of-requires : (t : ℕ) → level-lts.Need-level-of-requires (level-claims t) (level-at t) level.Post level-Inv-loop level-μ-loop
-level-level-of-requires t c κs =
-    search needs
-
-level-cast-l : (t : ℕ) → level-lts.Need-cast-l (level-claims t) (level-at t) level.Post level-Inv-loop level-μ-loop
-level-cast-l t c =
-    search needs
-
-level-returns-2 : (t : ℕ) → level-lts.Need-returns-2 (level-claims t) (level-at t) level.Post level-Inv-loop level-μ-loop
-level-returns-2 t c =
-    let s = c .before .before .before .before .before .before .before .before in
-    let l = c .before .before .before .loop in
-    let p = c .before .before .before .before .before .unary .ensures .right (c .before .before .before .before .if1 .left) in
-    let g = l .inv .6 in
-    let lv = ap levelOf (sym (c .before .before .code-at .ensures)) ∙ sym (c .before .level-of .ensures) in
-    found (omega (arith, l .inv .3, s .pre .1 .0 .few)) (record { entries = p .entries ++ g .more; made = climbed (ended (s .args .codes .now) (s .args .n .0)) (s .args .i .0) (omega arith) (s .pre .1 .2) (p .made) (g .goes (p .entries) _ (nothing (ended (s .args .codes .now) (s .args .n .0)) (l .low) (s .args .k) (p .entries ++ g .more) (l .at) (l .inv .1) (λ x f h q. omega (arith, q, lv, c .if2 .taken)))); held = after (take (l .filled) (l .order)) (take (s .args .filled .now) (s .args .order .now)) (take (c .before .before .before .before .before .unary .last .1 .0) (c .before .before .before .before .before .unary .last .0)) (p .entries) (g .more) (g .held) (p .held); most = omega (arith, l .inv .4, p .most); long = l .inv .5 })
-
-level-returns-3 : (t : ℕ) → level-lts.Need-returns-3 (level-claims t) (level-at t) level.Post level-Inv-loop level-μ-loop
-level-returns-3 t c =
-    let s = c .before .before .before .before .before .before .before .before .before in
-    let l = c .before .before .before .before .loop in
-    let p = c .before .before .before .before .before .before .unary .ensures .right (c .before .before .before .before .before .if1 .left) in
-    let g = l .inv .6 in
-    let lv = ap levelOf (sym (c .before .before .before .code-at .ensures)) ∙ sym (c .before .before .level-of .ensures) in
-    found (omega (arith, l .inv .3, s .pre .1 .0 .few)) (record { entries = p .entries ++ g .more; made = climbed (ended (s .args .codes .now) (s .args .n .0)) (s .args .i .0) (omega arith) (s .pre .1 .2) (p .made) (g .goes (p .entries) _ (nothing (ended (s .args .codes .now) (s .args .n .0)) (l .low) (s .args .k) (p .entries ++ g .more) (l .at) (l .inv .1) (λ x f h q. omega (arith, q, lv, c .if3 .taken)))); held = after (take (l .filled) (l .order)) (take (s .args .filled .now) (s .args .order .now)) (take (c .before .before .before .before .before .before .unary .last .1 .0) (c .before .before .before .before .before .before .unary .last .0)) (p .entries) (g .more) (g .held) (p .held); most = omega (arith, l .inv .4, p .most); long = l .inv .5 })
-
-level-sub-low : (t : ℕ) → level-lts.Need-sub-low (level-claims t) (level-at t) level.Post level-Inv-loop level-μ-loop
-level-sub-low t c =
-    omega (arith, c .before .if2 .left)
-
-level-add-t20 : (t : ℕ) → level-lts.Need-add-t20 (level-claims t) (level-at t) level.Post level-Inv-loop level-μ-loop
-level-add-t20 t c =
-    let s = c .before .before .before .before .before .before .before .before .before .before .before in
-    let l = c .before .before .before .before .before .before .loop in
-    omega (arith, l .inv .3, s .pre .1 .0 .few)
-
-level-level-requires : (t : ℕ) → level-lts.Need-level-requires (level-claims t) (level-at t) level.Post level-Inv-loop level-μ-loop
-level-level-requires t c κs =
-    let s = c .before .before .before .before .before .before .before .before .before .before .before in
-    let l = c .before .before .before .before .before .before .loop in
-    let p = c .before .before .before .before .before .before .before .before .unary .ensures .right (c .before .before .before .before .before .before .before .if1 .left) in
-    let g = l .inv .6 in
-    let lv = ap levelOf (sym (c .before .before .before .before .before .code-at .ensures)) ∙ sym (c .before .before .before .before .level-of .ensures) in
-    let e : levelOf (codeAt (s .args .codes .now) (s .args .n .0) (l .at)) ≡ suc (c .before .before .before .before .level-of .result - 1) = omega (arith, lv, c .before .before .before .if2 .left) in
-    let i = level-inside (ended (s .args .codes .now) (s .args .n .0)) (l .at) (c .before .before .before .before .level-of .result - 1) (omega (arith, c .before .before .if3 .left, s .pre .1 .2)) e in
-    let b = moved (ended (s .args .codes .now) (s .args .n .0)) (p .made) (omega arith) in
-    (omega (arith, s .pre .0, i, c .before .before .if3 .left, s .pre .1 .2, l .inv .2, b), (record { few = s .pre .1 .0 .few; within = omega (arith, i); room = omega (arith, l .inv .4, p .most, s .pre .1 .0 .room); long = l .inv .5 }, omega (arith, c .before .before .before .if2 .left, l .inv .0), omega (arith, c .before .before .if3 .left, s .pre .1 .2)))
-
-level-returns-4 : (t : ℕ) → level-lts.Need-returns-4 (level-claims t) (level-at t) level.Post level-Inv-loop level-μ-loop
-level-returns-4 t c =
-    let s = c .before .before .before .before .before .before .before .before .before .before .before .before .before in
-    let l = c .before .before .before .before .before .before .before .before .loop in
-    let p = c .before .before .before .before .before .before .before .before .before .before .unary .ensures .right (c .before .before .before .before .before .before .before .before .before .if1 .left) in
-    let g = l .inv .6 in
-    let lv = ap levelOf (sym (c .before .before .before .before .before .before .before .code-at .ensures)) ∙ sym (c .before .before .before .before .before .before .level-of .ensures) in
-    let e : levelOf (codeAt (s .args .codes .now) (s .args .n .0) (l .at)) ≡ suc (c .before .before .before .before .before .before .level-of .result - 1) = omega (arith, lv, c .before .before .before .before .before .if2 .left) in
-    handed (c .if4 .taken) (climbed (ended (s .args .codes .now) (s .args .n .0)) (s .args .i .0) (omega arith) (s .pre .1 .2) (p .made) (g .goes (p .entries) _ (joined-bad (ended (s .args .codes .now) (s .args .n .0)) (l .low) (c .before .before .before .before .before .before .level-of .result - 1) (s .args .k) (p .entries ++ g .more) (l .at) (omega (arith, c .before .before .before .before .before .if2 .left)) (omega (arith, c .before .before .before .before .before .if2 .left, c .before .before .before .before .if3 .left)) (s .pre .1 .2) e _ (c .before .level .ensures .wrong (c .if4 .taken)))))
-
-level-cast-place : (t : ℕ) → level-lts.Need-cast-place (level-claims t) (level-at t) level.Post level-Inv-loop level-μ-loop
-level-cast-place t c =
-    let s = c .before .before .before .before .before .before .before .before .before .before .before .before .before .before .before in
-    let l = c .before .before .before .before .before .before .before .before .before .before .loop in
-    omega (arith, l .inv .3, s .pre .1 .0 .few)
-
-level-place-requires : (t : ℕ) → level-lts.Need-place-requires (level-claims t) (level-at t) level.Post level-Inv-loop level-μ-loop
-level-place-requires t c κs =
-    let s = c .before .before .before .before .before .before .before .before .before .before .before .before .before .before .before in
-    let l = c .before .before .before .before .before .before .before .before .before .before .loop in
-    let p = c .before .before .before .before .before .before .before .before .before .before .before .before .unary .ensures .right (c .before .before .before .before .before .before .before .before .before .before .before .if1 .left) in
-    let g = l .inv .6 in
-    let q = c .before .before .before .level .ensures .right (c .before .before .if4 .left) in
-    let v = moved (ended (s .args .codes .now) (s .args .n .0)) (q .made) (omega (arith, c .before .before .before .before .before .before .if3 .left, s .pre .1 .2)) in
-    omega (arith, q .most, v, l .inv .4, p .most, s .pre .1 .0 .room, s .pre .1 .0 .few)
-
-level-loop-less : (t : ℕ) → level-lts.Need-loop-less (level-claims t) (level-at t) level.Post level-Inv-loop level-μ-loop
-level-loop-less t c =
-    let s = c .before .before .before .before .before .before .before .before .before .before .before .before .before .before .before .before in
-    let l = c .before .before .before .before .before .before .before .before .before .before .before .loop in
-    let q = c .before .before .before .before .level .ensures .right (c .before .before .before .if4 .left) in
-    let v = moved (ended (s .args .codes .now) (s .args .n .0)) (q .made) (omega (arith, c .before .before .before .before .before .before .before .if3 .left, s .pre .1 .2)) in
-    omega (arith, v)
-
-level-loop-again : (t : ℕ) → level-lts.Need-loop-again (level-claims t) (level-at t) level.Post level-Inv-loop level-μ-loop
-level-loop-again t c =
-    let s = c .before .before .before .before .before .before .before .before .before .before .before .before .before .before .before .before in
-    let l = c .before .before .before .before .before .before .before .before .before .before .before .loop in
-    let p = c .before .before .before .before .before .before .before .before .before .before .before .before .before .unary .ensures .right (c .before .before .before .before .before .before .before .before .before .before .before .before .if1 .left) in
-    let g = l .inv .6 in
-    let lv = ap levelOf (sym (c .before .before .before .before .before .before .before .before .before .before .code-at .ensures)) ∙ sym (c .before .before .before .before .before .before .before .before .before .level-of .ensures) in
-    let e : levelOf (codeAt (s .args .codes .now) (s .args .n .0) (l .at)) ≡ suc (c .before .before .before .before .before .before .before .before .before .level-of .result - 1) = omega (arith, lv, c .before .before .before .before .before .before .before .before .if2 .left) in
-    let q = c .before .before .before .before .level .ensures .right (c .before .before .before .if4 .left) in
-    let v = moved (ended (s .args .codes .now) (s .args .n .0)) (q .made) (omega (arith, c .before .before .before .before .before .before .before .if3 .left, s .pre .1 .2)) in
-    let w = put (c .before .before .before .before .level .last .0) (c .place .last .0) (take (l .filled) (l .order)) (q .entries) (c .before .before .before .before .level .last .1 .0) (c .place .last .1 .0) (l .at) (c .place .ensures .0) (c .place .ensures .1) (omega (arith, q .long, q .most, v, l .inv .4, p .most, s .pre .1 .0 .room, s .pre .1 .0 .few)) (q .held) in (
-      omega (arith, c .before .before .before .before .before .before .before .before .if2 .left, l .inv .0),
-      omega (arith, c .before .before .before .before .before .before .before .if3 .left),
-      omega (arith, v, l .inv .2),
-      v .1,
-      omega (arith, c .place .ensures .1, q .most, l .inv .4),
-      put-long (c .before .before .before .before .level .last .0) (c .place .last .0) (c .before .before .before .before .level .last .1 .0) (l .at) (c .place .ensures .0) (q .long),
-      record { more = g .more ++ (q .entries ++ (l .at ∷ [])); held = after (take (c .place .last .1 .0) (c .place .last .0)) (take (c .before .before .before .before .before .before .before .before .before .before .before .before .before .unary .last .1 .0) (c .before .before .before .before .before .before .before .before .before .before .before .before .before .unary .last .0)) (take (l .filled) (l .order)) (g .more) (q .entries ++ (l .at ∷ [])) w (g .held); goes = λ a r u. g .goes a r (joined (ended (s .args .codes .now) (s .args .n .0)) (l .low) (c .before .before .before .before .before .before .before .before .before .level-of .result - 1) (s .args .k) (a ++ g .more) (l .at) (omega (arith, c .before .before .before .before .before .before .before .before .if2 .left)) (omega (arith, c .before .before .before .before .before .before .before .before .if2 .left, c .before .before .before .before .before .before .before .if3 .left)) (s .pre .1 .2) e (q .entries) (c .before .before .before .before .level .result) (q .made) r (rw (← append-assoc a (g .more) (q .entries ++ (l .at ∷ []))) at u)) },
-    )
-
-abbrev primary-claims : ℕ → primary-lts.Claims
-primary-claims t = (code-at-reads.Asked, code-at-reads.Learnt, is-primary-reads.Asked, is-primary-reads.Learnt, place-reads.Asked, place-reads.Learnt, whole-below t, whole.Post)
-
-primary-code-at-requires : (t : ℕ) → primary-lts.Need-code-at-requires (primary-claims t) (primary-at t) primary.Post
-primary-code-at-requires t c κs =
-    let s = c in
-    s .pre .1 .few
-
-primary-is-primary-requires : (t : ℕ) → primary-lts.Need-is-primary-requires (primary-claims t) (primary-at t) primary.Post
-primary-is-primary-requires t c κs =
-    search needs
-
-primary-cast-place : (t : ℕ) → primary-lts.Need-cast-place (primary-claims t) (primary-at t) primary.Post
-primary-cast-place t c =
-    let s = c .before .before .before .before .before .before in
-    omega (arith, s .pre .1 .within, s .pre .1 .few)
-
-primary-place-requires : (t : ℕ) → primary-lts.Need-place-requires (primary-claims t) (primary-at t) primary.Post
-primary-place-requires t c κs =
-    let s = c .before .before .before .before .before .before in
-    let e = ap isPrimary (sym (c .before .before .before .before .before .code-at .ensures)) ∙ sym (c .before .before .before .before .is-primary .ensures) ∙ c .before .before .before .if1 .taken in
-    omega (arith, primary-inside (ended (s .args .codes .now) (s .args .n .0)) (s .args .i .0) e, s .pre .1 .room, s .pre .1 .few)
-
-primary-add-result : (t : ℕ) → primary-lts.Need-add-result (primary-claims t) (primary-at t) primary.Post
-primary-add-result t c =
-    let s = c .before .before .before .before .before .before .before .before in
-    omega (arith, s .pre .1 .within, s .pre .1 .few)
-
-primary-returns : (t : ℕ) → primary-lts.Need-returns (primary-claims t) (primary-at t) primary.Post
-primary-returns t c =
-    let s = c .before .before .before .before .before .before .before .before in
-    let e = ap isPrimary (sym (c .before .before .before .before .before .before .before .code-at .ensures)) ∙ sym (c .before .before .before .before .before .before .is-primary .ensures) ∙ c .before .before .before .before .before .if1 .taken in
-    let l = primary-inside (ended (s .args .codes .now) (s .args .n .0)) (s .args .i .0) e in
-    found (omega (arith, l, s .pre .1 .few)) (record { entries = (s .args .i .0) ∷ []; made = primary-leaf (ended (s .args .codes .now) (s .args .n .0)) (s .args .i .0) e; held = put (s .args .order .now) (c .before .place .last .0) (take (s .args .filled .now) (s .args .order .now)) [] (s .args .filled .now) (c .before .place .last .1 .0) (s .args .i .0) (c .before .place .ensures .0) (c .before .place .ensures .1) (omega (arith, s .pre .1 .long, l, s .pre .1 .room, s .pre .1 .few)) (sym (append-nil (take (s .args .filled .now) (s .args .order .now)))); most = omega (arith, c .before .place .ensures .1); long = put-long (s .args .order .now) (c .before .place .last .0) (s .args .filled .now) (s .args .i .0) (c .before .place .ensures .0) (s .pre .1 .long) })
-
-primary-add-result-2 : (t : ℕ) → primary-lts.Need-add-result-2 (primary-claims t) (primary-at t) primary.Post
-primary-add-result-2 t c =
-    let s = c .before .before .before .before .before in
-    omega (arith, s .pre .1 .within, s .pre .1 .few)
-
-primary-returns-2 : (t : ℕ) → primary-lts.Need-returns-2 (primary-claims t) (primary-at t) primary.Post
-primary-returns-2 t c =
-    let s = c .before .before .before .before .before in
-    let e = ap isPrimary (sym (c .before .before .before .before .code-at .ensures)) ∙ sym (c .before .before .before .is-primary .ensures) ∙ c .before .before .if1 .left in
-    faulty (s .args .i .0) (primary-none (ended (s .args .codes .now) (s .args .n .0)) (s .args .i .0) e (λ z. c .before .if2 .taken (c .before .before .before .before .code-at .ensures ∙ z)))
-
-primary-add-t16 : (t : ℕ) → primary-lts.Need-add-t16 (primary-claims t) (primary-at t) primary.Post
-primary-add-t16 t c =
-    let s = c .before .before .before .before .before .before .before in
-    omega (arith, s .pre .1 .within, s .pre .1 .few)
-
-primary-whole-requires : (t : ℕ) → primary-lts.Need-whole-requires (primary-claims t) (primary-at t) primary.Post
-primary-whole-requires t c κs =
-    let s = c .before .before .before .before .before .before .before in
-    let o = sym (c .before .before .before .before .before .before .code-at .ensures) ∙ c .before .before .before .if2 .left in
-    let l = code-inside (ended (s .args .codes .now) (s .args .n .0)) (s .args .i .0) 10 (omega arith) o in
-    (omega (arith, s .pre .0, l), record { few = s .pre .1 .few; within = omega (arith, l); room = omega (arith, s .pre .1 .room); long = s .pre .1 .long })
-
-primary-returns-3 : (t : ℕ) → primary-lts.Need-returns-3 (primary-claims t) (primary-at t) primary.Post
-primary-returns-3 t c =
-    let s = c .before .before .before .before .before .before .before .before .before in
-    let o = sym (c .before .before .before .before .before .before .before .before .code-at .ensures) ∙ c .before .before .before .before .before .if2 .left in
-    handed (c .if3 .taken) (parentheses-bad (ended (s .args .codes .now) (s .args .n .0)) (s .args .i .0) o _ (c .before .whole .ensures .wrong (c .if3 .taken)))
-
-primary-code-at-requires-2 : (t : ℕ) → primary-lts.Need-code-at-requires-2 (primary-claims t) (primary-at t) primary.Post
-primary-code-at-requires-2 t c κs =
-    let s = c .before .before .before .before .before .before .before .before .before in
-    s .pre .1 .few
-
-primary-add-result-3 : (t : ℕ) → primary-lts.Need-add-result-3 (primary-claims t) (primary-at t) primary.Post
-primary-add-result-3 t c =
-    omega (arith, c .before .before .if3 .left)
-
-primary-returns-4 : (t : ℕ) → primary-lts.Need-returns-4 (primary-claims t) (primary-at t) primary.Post
-primary-returns-4 t c =
-    let s = c .before .before .before .before .before .before .before .before .before .before .before in
-    let o = sym (c .before .before .before .before .before .before .before .before .before .before .code-at .ensures) ∙ c .before .before .before .before .before .before .before .if2 .left in
-    let p = c .before .before .before .whole .ensures .right (c .before .before .if3 .left) in
-    faulty (c .before .before .before .whole .result) (parentheses-open (ended (s .args .codes .now) (s .args .n .0)) (s .args .i .0) o (p .entries) (c .before .before .before .whole .result) (p .made) (λ z. c .if4 .taken (c .before .code-at2 .ensures ∙ z)))
-
-primary-add-result-4 : (t : ℕ) → primary-lts.Need-add-result-4 (primary-claims t) (primary-at t) primary.Post
-primary-add-result-4 t c =
-    omega (arith, c .before .before .if3 .left)
-
-primary-returns-5 : (t : ℕ) → primary-lts.Need-returns-5 (primary-claims t) (primary-at t) primary.Post
-primary-returns-5 t c =
-    let s = c .before .before .before .before .before .before .before .before .before .before .before in
-    let o = sym (c .before .before .before .before .before .before .before .before .before .before .code-at .ensures) ∙ c .before .before .before .before .before .before .before .if2 .left in
-    let p = c .before .before .before .whole .ensures .right (c .before .before .if3 .left) in
-    let v = moved (ended (s .args .codes .now) (s .args .n .0)) (p .made) tt in
-    found (omega (arith, v, s .pre .1 .few)) (record { entries = p .entries; made = parentheses-closed (ended (s .args .codes .now) (s .args .n .0)) (s .args .i .0) o (p .entries) (c .before .before .before .whole .result) (p .made) (sym (c .before .code-at2 .ensures) ∙ c .if4 .left); held = p .held; most = omega (arith, p .most); long = p .long })
-
-abbrev unary-claims : ℕ → unary-lts.Claims
-unary-claims t = (run-end-reads.Asked, run-end-reads.Learnt, primary-below t, primary.Post, signs-reads.Asked, signs-reads.Learnt)
-
-unary-run-end-requires : (t : ℕ) → unary-lts.Need-run-end-requires (unary-claims t) (unary-at t) unary.Post
-unary-run-end-requires t c κs =
-    let s = c in
-    (s .pre .1 .few, s .pre .1 .within)
-
-unary-primary-requires : (t : ℕ) → unary-lts.Need-primary-requires (unary-claims t) (unary-at t) unary.Post
-unary-primary-requires t c κs =
-    let s = c .before .before .before in
-    let r = c .before .before .run-end .ensures .0 in
-    (omega (arith, s .pre .0, r .from), record { few = s .pre .1 .few; within = r .to; room = omega (arith, s .pre .1 .room, r .from); long = s .pre .1 .long })
-
-unary-returns : (t : ℕ) → unary-lts.Need-returns (unary-claims t) (unary-at t) unary.Post
-unary-returns t c =
-    let s = c .before .before .before .before .before in
-    let r = c .before .before .before .before .run-end .ensures in
-    handed (c .if1 .taken) (wrong (s .args .codes .now) (s .args .n .0) _ ((c .before .before .before .before .run-end .result .0) - (s .args .i .0)) (s .args .i .0) (c .before .before .before .before .run-end .result .0) (omega (arith, r .0 .from)) (r .0 .each) (unary-none (ended (s .args .codes .now) (s .args .n .0)) (c .before .before .before .before .run-end .result .0) (r .1) _ (c .before .primary .ensures .wrong (c .if1 .taken))))
-
-unary-signs-requires : (t : ℕ) → unary-lts.Need-signs-requires (unary-claims t) (unary-at t) unary.Post
-unary-signs-requires t c κs =
-    let s = c .before .before .before .before .before .before .before in
-    let r = c .before .before .before .before .before .before .run-end .ensures in
-    let p = c .before .before .before .primary .ensures .right (c .before .before .if1 .left) in
-    let v = moved (ended (s .args .codes .now) (s .args .n .0)) (p .made) (omega arith) in
-    (r .0 .from, omega (arith, r .0 .to, s .pre .1 .few), omega (arith, p .most, s .pre .1 .room, s .pre .1 .few, v, r .0 .from), p .long)
-
-unary-returns-2 : (t : ℕ) → unary-lts.Need-returns-2 (unary-claims t) (unary-at t) unary.Post
-unary-returns-2 t c =
-    let s = c .before .before .before .before .before .before .before .before in
-    let r = c .before .before .before .before .before .before .before .run-end .ensures in
-    let p = c .before .before .before .before .primary .ensures .right (c .before .before .before .if1 .left) in
-    let v = moved (ended (s .args .codes .now) (s .args .n .0)) (p .made) (omega arith) in
-    let g = c .signs .ensures in
-    found (omega (arith, v, s .pre .1 .few)) (record { entries = p .entries ++ back ((c .before .before .before .before .before .before .before .run-end .result .0) - (s .args .i .0)) (s .args .i .0); made = applied (s .args .codes .now) (s .args .n .0) (p .entries) (c .before .before .before .before .primary .result) ((c .before .before .before .before .before .before .before .run-end .result .0) - (s .args .i .0)) (s .args .i .0) (c .before .before .before .before .before .before .before .run-end .result .0) (omega (arith, r .0 .from)) (r .0 .each) (unary-none (ended (s .args .codes .now) (s .args .n .0)) (c .before .before .before .before .before .before .before .run-end .result .0) (r .1) _ (p .made)); held = after (take (c .signs .last .1 .0) (c .signs .last .0)) (take (s .args .filled .now) (s .args .order .now)) (take (c .before .before .before .before .primary .last .1 .0) (c .before .before .before .before .primary .last .0)) (p .entries) (back ((c .before .before .before .before .before .before .before .run-end .result .0) - (s .args .i .0)) (s .args .i .0)) (g .held) (p .held); most = omega (arith, g .most, p .most, r .0 .from); long = g .long })
-
-abbrev whole-claims : ℕ → whole-lts.Claims
-whole-claims t = (level-below t, level.Post, code-at-reads.Asked, code-at-reads.Learnt, whole-below t, whole.Post, place-reads.Asked, place-reads.Learnt)
-
-whole-level-requires : (t : ℕ) → whole-lts.Need-level-requires (whole-claims t) (whole-at t) whole.Post
-whole-level-requires t c κs =
-    let s = c .before .before in
-    (omega (arith, s .pre .0), (record { few = s .pre .1 .few; within = s .pre .1 .within; room = s .pre .1 .room; long = s .pre .1 .long }, omega arith, omega arith))
-
-whole-returns : (t : ℕ) → whole-lts.Need-returns (whole-claims t) (whole-at t) whole.Post
-whole-returns t c =
-    let s = c .before .before .before .before in
-    handed (c .if1 .taken) (expression-bad (ended (s .args .codes .now) (s .args .n .0)) (s .args .i .0) _ (c .before .level .ensures .wrong (c .if1 .taken)))
-
-whole-code-at-requires : (t : ℕ) → whole-lts.Need-code-at-requires (whole-claims t) (whole-at t) whole.Post
-whole-code-at-requires t c κs =
-    let s = c .before .before .before .before in
-    s .pre .1 .few
-
-whole-returns-2 : (t : ℕ) → whole-lts.Need-returns-2 (whole-claims t) (whole-at t) whole.Post
-whole-returns-2 t c =
-    let s = c .before .before .before .before .before .before in
-    let p = c .before .before .before .level .ensures .right (c .before .before .if1 .left) in
-    let v = moved (ended (s .args .codes .now) (s .args .n .0)) (p .made) (omega arith) in
-    found (c .before .before .if1 .left) (record { entries = p .entries; made = choice-none (ended (s .args .codes .now) (s .args .n .0)) (s .args .i .0) (p .entries) (c .before .before .before .level .result) (p .made) (λ z. c .if2 .taken (c .before .code-at .ensures ∙ z)); held = p .held; most = p .most; long = p .long })
-
-whole-add-t16 : (t : ℕ) → whole-lts.Need-add-t16 (whole-claims t) (whole-at t) whole.Post
-whole-add-t16 t c =
-    omega (arith, c .before .before .before .before .if1 .left)
-
-whole-whole-requires : (t : ℕ) → whole-lts.Need-whole-requires (whole-claims t) (whole-at t) whole.Post
-whole-whole-requires t c κs =
-    let s = c .before .before .before .before .before .before .before .before in
-    let p = c .before .before .before .before .before .level .ensures .right (c .before .before .before .before .if1 .left) in
-    let v = moved (ended (s .args .codes .now) (s .args .n .0)) (p .made) (omega arith) in
-    let e = sym (c .before .before .before .code-at .ensures) ∙ c .before .before .if2 .left in
-    let l = code-inside (ended (s .args .codes .now) (s .args .n .0)) (c .before .before .before .before .before .level .result) 12 (omega arith) e in
-    (omega (arith, s .pre .0, v, l), record { few = s .pre .1 .few; within = omega (arith, l); room = omega (arith, p .most, s .pre .1 .room); long = p .long })
-
-whole-returns-3 : (t : ℕ) → whole-lts.Need-returns-3 (whole-claims t) (whole-at t) whole.Post
-whole-returns-3 t c =
-    let s = c .before .before .before .before .before .before .before .before .before .before in
-    let p = c .before .before .before .before .before .before .before .level .ensures .right (c .before .before .before .before .before .before .if1 .left) in
-    let v = moved (ended (s .args .codes .now) (s .args .n .0)) (p .made) (omega arith) in
-    let e = sym (c .before .before .before .before .before .code-at .ensures) ∙ c .before .before .before .before .if2 .left in
-    handed (c .if3 .taken) (choice-bad-first (ended (s .args .codes .now) (s .args .n .0)) (s .args .i .0) (p .entries) (c .before .before .before .before .before .before .before .level .result) (p .made) e _ (c .before .whole .ensures .wrong (c .if3 .taken)))
-
-whole-code-at-requires-2 : (t : ℕ) → whole-lts.Need-code-at-requires-2 (whole-claims t) (whole-at t) whole.Post
-whole-code-at-requires-2 t c κs =
-    let s = c .before .before .before .before .before .before .before .before .before .before in
-    s .pre .1 .few
-
-whole-add-result : (t : ℕ) → whole-lts.Need-add-result (whole-claims t) (whole-at t) whole.Post
-whole-add-result t c =
-    omega (arith, c .before .before .if3 .left)
-
-whole-returns-4 : (t : ℕ) → whole-lts.Need-returns-4 (whole-claims t) (whole-at t) whole.Post
-whole-returns-4 t c =
-    let s = c .before .before .before .before .before .before .before .before .before .before .before .before in
-    let p = c .before .before .before .before .before .before .before .before .before .level .ensures .right (c .before .before .before .before .before .before .before .before .if1 .left) in
-    let v = moved (ended (s .args .codes .now) (s .args .n .0)) (p .made) (omega arith) in
-    let e = sym (c .before .before .before .before .before .before .before .code-at .ensures) ∙ c .before .before .before .before .before .before .if2 .left in
-    let q = c .before .before .before .whole .ensures .right (c .before .before .if3 .left) in
-    let w = moved (ended (s .args .codes .now) (s .args .n .0)) (q .made) tt in
-    faulty (c .before .before .before .whole .result) (choice-no-colon (ended (s .args .codes .now) (s .args .n .0)) (s .args .i .0) (p .entries) (c .before .before .before .before .before .before .before .before .before .level .result) (p .made) e (q .entries) (c .before .before .before .whole .result) (q .made) (λ z. c .if4 .taken (c .before .code-at2 .ensures ∙ z)))
-
-whole-add-t16-2 : (t : ℕ) → whole-lts.Need-add-t16-2 (whole-claims t) (whole-at t) whole.Post
-whole-add-t16-2 t c =
-    omega (arith, c .before .before .before .before .if3 .left)
-
-whole-whole-requires-2 : (t : ℕ) → whole-lts.Need-whole-requires-2 (whole-claims t) (whole-at t) whole.Post
-whole-whole-requires-2 t c κs =
-    let s = c .before .before .before .before .before .before .before .before .before .before .before .before .before .before in
-    let p = c .before .before .before .before .before .before .before .before .before .before .before .level .ensures .right (c .before .before .before .before .before .before .before .before .before .before .if1 .left) in
-    let v = moved (ended (s .args .codes .now) (s .args .n .0)) (p .made) (omega arith) in
-    let e = sym (c .before .before .before .before .before .before .before .before .before .code-at .ensures) ∙ c .before .before .before .before .before .before .before .before .if2 .left in
-    let l = code-inside (ended (s .args .codes .now) (s .args .n .0)) (c .before .before .before .before .before .before .before .before .before .before .before .level .result) 12 (omega arith) e in
-    let q = c .before .before .before .before .before .whole .ensures .right (c .before .before .before .before .if3 .left) in
-    let w = moved (ended (s .args .codes .now) (s .args .n .0)) (q .made) tt in
-    let f = sym (c .before .before .before .code-at2 .ensures) ∙ c .before .before .if4 .left in
-    let m = code-inside (ended (s .args .codes .now) (s .args .n .0)) (c .before .before .before .before .before .whole .result) 13 (omega arith) f in
-    (omega (arith, s .pre .0, v, w, m), record { few = s .pre .1 .few; within = omega (arith, m); room = omega (arith, q .most, p .most, s .pre .1 .room); long = q .long })
-
-whole-returns-5 : (t : ℕ) → whole-lts.Need-returns-5 (whole-claims t) (whole-at t) whole.Post
-whole-returns-5 t c =
-    let s = c .before .before .before .before .before .before .before .before .before .before .before .before .before .before .before .before in
-    let p = c .before .before .before .before .before .before .before .before .before .before .before .before .before .level .ensures .right (c .before .before .before .before .before .before .before .before .before .before .before .before .if1 .left) in
-    let v = moved (ended (s .args .codes .now) (s .args .n .0)) (p .made) (omega arith) in
-    let e = sym (c .before .before .before .before .before .before .before .before .before .before .before .code-at .ensures) ∙ c .before .before .before .before .before .before .before .before .before .before .if2 .left in
-    let q = c .before .before .before .before .before .before .before .whole .ensures .right (c .before .before .before .before .before .before .if3 .left) in
-    let w = moved (ended (s .args .codes .now) (s .args .n .0)) (q .made) tt in
-    let f = sym (c .before .before .before .before .before .code-at2 .ensures) ∙ c .before .before .before .before .if4 .left in
-    handed (c .if5 .taken) (choice-bad-second (ended (s .args .codes .now) (s .args .n .0)) (s .args .i .0) (p .entries) (c .before .before .before .before .before .before .before .before .before .before .before .before .before .level .result) (p .made) e (q .entries) (c .before .before .before .before .before .before .before .whole .result) (q .made) f _ (c .before .whole2 .ensures .wrong (c .if5 .taken)))
-
-whole-cast-place : (t : ℕ) → whole-lts.Need-cast-place (whole-claims t) (whole-at t) whole.Post
-whole-cast-place t c =
-    omega (arith, c .before .before .before .before .before .before .before .before .before .before .before .before .before .before .if1 .left)
-
-whole-place-requires : (t : ℕ) → whole-lts.Need-place-requires (whole-claims t) (whole-at t) whole.Post
-whole-place-requires t c κs =
-    let s = c .before .before .before .before .before .before .before .before .before .before .before .before .before .before .before .before .before .before in
-    let p = c .before .before .before .before .before .before .before .before .before .before .before .before .before .before .before .level .ensures .right (c .before .before .before .before .before .before .before .before .before .before .before .before .before .before .if1 .left) in
-    let v = moved (ended (s .args .codes .now) (s .args .n .0)) (p .made) (omega arith) in
-    let q = c .before .before .before .before .before .before .before .before .before .whole .ensures .right (c .before .before .before .before .before .before .before .before .if3 .left) in
-    let w = moved (ended (s .args .codes .now) (s .args .n .0)) (q .made) tt in
-    let x = c .before .before .before .whole2 .ensures .right (c .before .before .if5 .left) in
-    let y = moved (ended (s .args .codes .now) (s .args .n .0)) (x .made) tt in
-    omega (arith, y, w, v, x .most, q .most, p .most, s .pre .1 .room, s .pre .1 .few)
-
-whole-place-requires-2 : (t : ℕ) → whole-lts.Need-place-requires-2 (whole-claims t) (whole-at t) whole.Post
-whole-place-requires-2 t c κs =
-    let s = c .before .before .before .before .before .before .before .before .before .before .before .before .before .before .before .before .before .before .before .before .before in
-    let p = c .before .before .before .before .before .before .before .before .before .before .before .before .before .before .before .before .before .before .level .ensures .right (c .before .before .before .before .before .before .before .before .before .before .before .before .before .before .before .before .before .if1 .left) in
-    let v = moved (ended (s .args .codes .now) (s .args .n .0)) (p .made) (omega arith) in
-    let q = c .before .before .before .before .before .before .before .before .before .before .before .before .whole .ensures .right (c .before .before .before .before .before .before .before .before .before .before .before .if3 .left) in
-    let w = moved (ended (s .args .codes .now) (s .args .n .0)) (q .made) tt in
-    let x = c .before .before .before .before .before .before .whole2 .ensures .right (c .before .before .before .before .before .if5 .left) in
-    let y = moved (ended (s .args .codes .now) (s .args .n .0)) (x .made) tt in
-    omega (arith, c .before .before .place .ensures .1, y, w, v, x .most, q .most, p .most, s .pre .1 .room, s .pre .1 .few)
-
-whole-returns-6 : (t : ℕ) → whole-lts.Need-returns-6 (whole-claims t) (whole-at t) whole.Post
-whole-returns-6 t c =
-    let s = c .before .before .before .before .before .before .before .before .before .before .before .before .before .before .before .before .before .before .before .before .before .before in
-    let p = c .before .before .before .before .before .before .before .before .before .before .before .before .before .before .before .before .before .before .before .level .ensures .right (c .before .before .before .before .before .before .before .before .before .before .before .before .before .before .before .before .before .before .if1 .left) in
-    let v = moved (ended (s .args .codes .now) (s .args .n .0)) (p .made) (omega arith) in
-    let e = sym (c .before .before .before .before .before .before .before .before .before .before .before .before .before .before .before .before .before .code-at .ensures) ∙ c .before .before .before .before .before .before .before .before .before .before .before .before .before .before .before .before .if2 .left in
-    let q = c .before .before .before .before .before .before .before .before .before .before .before .before .before .whole .ensures .right (c .before .before .before .before .before .before .before .before .before .before .before .before .if3 .left) in
-    let w = moved (ended (s .args .codes .now) (s .args .n .0)) (q .made) tt in
-    let f = sym (c .before .before .before .before .before .before .before .before .before .before .before .code-at2 .ensures) ∙ c .before .before .before .before .before .before .before .before .before .before .if4 .left in
-    let x = c .before .before .before .before .before .before .before .whole2 .ensures .right (c .before .before .before .before .before .before .if5 .left) in
-    let y = moved (ended (s .args .codes .now) (s .args .n .0)) (x .made) tt in
-    let a = put (c .before .before .before .before .before .before .before .whole2 .last .0) (c .before .before .before .place .last .0) (take (c .before .before .before .before .before .before .before .before .before .before .before .before .before .whole .last .1 .0) (c .before .before .before .before .before .before .before .before .before .before .before .before .before .whole .last .0)) (x .entries) (c .before .before .before .before .before .before .before .whole2 .last .1 .0) (c .before .before .before .place .last .1 .0) (c .before .before .before .before .before .before .before .before .before .before .before .before .before .before .before .before .before .before .before .level .result) (c .before .before .before .place .ensures .0) (c .before .before .before .place .ensures .1) (omega (arith, x .long, y, w, v, x .most, q .most, p .most, s .pre .1 .room, s .pre .1 .few)) (x .held) in
-    let g = put-long (c .before .before .before .before .before .before .before .whole2 .last .0) (c .before .before .before .place .last .0) (c .before .before .before .before .before .before .before .whole2 .last .1 .0) (c .before .before .before .before .before .before .before .before .before .before .before .before .before .before .before .before .before .before .before .level .result) (c .before .before .before .place .ensures .0) (x .long) in
-    let b = put (c .before .before .before .place .last .0) (c .place2 .last .0) (take (c .before .before .before .before .before .before .before .before .before .before .before .before .before .whole .last .1 .0) (c .before .before .before .before .before .before .before .before .before .before .before .before .before .whole .last .0)) (x .entries ++ (c .before .before .before .before .before .before .before .before .before .before .before .before .before .before .before .before .before .before .before .level .result ∷ [])) (c .before .before .before .place .last .1 .0) (c .place2 .last .1 .0) 255 (c .place2 .ensures .0) (c .place2 .ensures .1) (omega (arith, c .before .before .before .place .ensures .1, g, y, w, v, x .most, q .most, p .most, s .pre .1 .room, s .pre .1 .few)) a in
-    found (c .before .before .before .before .before .before .if5 .left) (record { entries = p .entries ++ (q .entries ++ (x .entries ++ (c .before .before .before .before .before .before .before .before .before .before .before .before .before .before .before .before .before .before .before .level .result ∷ 255 ∷ []))); made = choice-made (ended (s .args .codes .now) (s .args .n .0)) (s .args .i .0) (p .entries) (c .before .before .before .before .before .before .before .before .before .before .before .before .before .before .before .before .before .before .before .level .result) (p .made) e (q .entries) (c .before .before .before .before .before .before .before .before .before .before .before .before .before .whole .result) (q .made) f (x .entries) (c .before .before .before .before .before .before .before .whole2 .result) (x .made); held = chosen (take (s .args .filled .now) (s .args .order .now)) (take (c .before .before .before .before .before .before .before .before .before .before .before .before .before .before .before .before .before .before .before .level .last .1 .0) (c .before .before .before .before .before .before .before .before .before .before .before .before .before .before .before .before .before .before .before .level .last .0)) (take (c .before .before .before .before .before .before .before .before .before .before .before .before .before .whole .last .1 .0) (c .before .before .before .before .before .before .before .before .before .before .before .before .before .whole .last .0)) (take (c .place2 .last .1 .0) (c .place2 .last .0)) (p .entries) (q .entries) (x .entries) (c .before .before .before .before .before .before .before .before .before .before .before .before .before .before .before .before .before .before .before .level .result) (p .held) (q .held) b; most = omega (arith, c .before .before .before .place .ensures .1, c .place2 .ensures .1, x .most, q .most, p .most); long = put-long (c .before .before .before .place .last .0) (c .place2 .last .0) (c .before .before .before .place .last .1 .0) 255 (c .place2 .ensures .0) g })
-
-pub +level+primary+unary+whole-spec : {M : Type 1} → statement M
-+level+primary+unary+whole-spec = close μ-level μ-primary μ-unary μ-whole (λ t. level-lts.spec (
+level-claims t = (
   unary-below t,
   unary.Post,
   code-at-reads.Asked,
@@ -480,9 +85,566 @@ pub +level+primary+unary+whole-spec : {M : Type 1} → statement M
   level-of-reads.Learnt,
   level-below t,
   level.Post,
-  place-reads.Asked,
-  place-reads.Learnt,
+  append-reads.Asked,
+  append-reads.Learnt,
 )
+
+abbrev level-Inv-loop : level-lts.InvT-loop
+level-Inv-loop order₀ filled₀ codes n k at₀ low₀ order filled at low = Grown codes (n .0) k at₀ filled₀ order₀ low at filled order
+
+abbrev level-μ-loop : level-lts.MeasureT-loop
+level-μ-loop order₀ filled₀ codes n k at₀ low₀ order filled at low = n .0 - at
+
+-- level: the contexts are its start, `operand` where the first operand was found, `loop`, `operator` where an operator of its levels follows,
+-- and `right` where that operator's right operand was found
+module _ (t : ℕ) where
+  -- the level of the operator that follows
+  follows : (operator : level-lts.Else3 (level-claims t) (level-at t) level.Post level-Inv-loop level-μ-loop)
+      → let loop = operator .before .before .before .before in
+      let start = loop .before .before .before .before .before in
+      levelOf (codeAt (start .args .codes .now) (start .args .n .0) (loop .loop .at)) ≡ suc (operator .before .before .level-of .result - 1)
+  follows operator =
+      let level = operator .before .before in
+      omega (arith, read (level .before .code-at .ensures) (level .level-of .ensures), operator .before .if2 .left)
+
+  level-unary-requires : level-lts.Need-unary-requires (level-claims t) (level-at t) level.Post level-Inv-loop level-μ-loop
+  level-unary-requires c κs =
+      let start = c .before .before in
+      (omega (arith, start .pre .0), start .pre .1 .0)
+
+  level-returns : level-lts.Need-returns (level-claims t) (level-at t) level.Post level-Inv-loop level-μ-loop
+  level-returns c =
+      let start = c .before .before .before .before in
+      let codes = start .args .codes .now in
+      let bad = c .before .unary .ensures .wrong (c .if1 .taken) in
+      handed (c .if1 .taken) (found-bad (ended codes _) _ (start .args .k - 1) 1 _ (omega (arith, start .pre .1 .1)) (omega arith) _ bad)
+
+  level-loop-holds : level-lts.Need-loop-holds (level-claims t) (level-at t) level.Post level-Inv-loop level-μ-loop
+  level-loop-holds operand =
+      let start = operand .before .before .before .before in
+      let first = operand .before .unary .ensures .right (operand .if1 .left) in
+      begun (start .pre .1 .1) (passed first (omega arith) .1) (first .long)
+
+  level-code-at-requires : level-lts.Need-code-at-requires (level-claims t) (level-at t) level.Post level-Inv-loop level-μ-loop
+  level-code-at-requires loop κs =
+      let start = loop .before .before .before .before .before in
+      start .pre .1 .0 .few
+
+  level-level-of-requires : level-lts.Need-level-of-requires (level-claims t) (level-at t) level.Post level-Inv-loop level-μ-loop
+  level-level-of-requires c κs = search needs
+
+  level-cast-l : level-lts.Need-cast-l (level-claims t) (level-at t) level.Post level-Inv-loop level-μ-loop
+  level-cast-l c = search needs
+
+  level-returns-2 : level-lts.Need-returns-2 (level-claims t) (level-at t) level.Post level-Inv-loop level-μ-loop
+  level-returns-2 c =
+      let loop = c .before .before .before in
+      let operand = loop .before in
+      let start = operand .before .before .before .before in
+      let first = operand .before .unary .ensures .right (operand .if1 .left) in
+      let here = read (c .before .before .code-at .ensures) (c .before .level-of .ensures) in
+      stays (start .pre .1 .2) first (loop .loop .inv) (start .pre .1 .0) (λ x f h q. omega (arith, q, here, c .if2 .taken))
+
+  level-returns-3 : level-lts.Need-returns-3 (level-claims t) (level-at t) level.Post level-Inv-loop level-μ-loop
+  level-returns-3 c =
+      let loop = c .before .before .before .before in
+      let operand = loop .before in
+      let start = operand .before .before .before .before in
+      let first = operand .before .unary .ensures .right (operand .if1 .left) in
+      let here = read (c .before .before .before .code-at .ensures) (c .before .before .level-of .ensures) in
+      stays (start .pre .1 .2) first (loop .loop .inv) (start .pre .1 .0) (λ x f h q. omega (arith, q, here, c .if3 .taken))
+
+  level-sub-low : level-lts.Need-sub-low (level-claims t) (level-at t) level.Post level-Inv-loop level-μ-loop
+  level-sub-low operator = omega (arith, operator .before .if2 .left)
+
+  level-add-t20 : level-lts.Need-add-t20 (level-claims t) (level-at t) level.Post level-Inv-loop level-μ-loop
+  level-add-t20 c =
+      let loop = c .before .before .before .before .before .before in
+      let start = loop .before .before .before .before .before in
+      omega (arith, loop .loop .inv .within, start .pre .1 .0 .few)
+
+  level-level-requires : level-lts.Need-level-requires (level-claims t) (level-at t) level.Post level-Inv-loop level-μ-loop
+  level-level-requires c κs =
+      let operator = c .before .before in
+      let loop = operator .before .before .before .before in
+      let operand = loop .before in
+      let start = operand .before .before .before .before in
+      let first = operand .before .unary .ensures .right (operand .if1 .left) in
+      let grown = loop .loop .inv in
+      let top = start .pre .1 .2 in
+      let below = operator .if3 .left in
+      let ends = ended (start .args .codes .now) (start .args .n .0) in
+      let inside = level-inside ends _ (operator .before .before .level-of .result - 1) (omega (arith, below, top)) (follows operator) in (
+        omega (arith, start .pre .0, inside, below, top, grown .on, passed first (omega arith)),
+        (room top first grown (start .pre .1 .0) inside, omega (arith, operator .before .if2 .left, grown .some), omega (arith, below, top)),
+      )
+
+  level-returns-4 : level-lts.Need-returns-4 (level-claims t) (level-at t) level.Post level-Inv-loop level-μ-loop
+  level-returns-4 c =
+      let operator = c .before .before .before .before in
+      let loop = operator .before .before .before .before in
+      let operand = loop .before in
+      let start = operand .before .before .before .before in
+      let first = operand .before .unary .ensures .right (operand .if1 .left) in
+      let above = operator .before .if2 .left in
+      let below = operator .if3 .left in
+      let bad = c .before .level .ensures .wrong (c .if4 .taken) in
+      handed (c .if4 .taken) (refused (start .pre .1 .2) first (loop .loop .inv) (omega (arith, above)) (omega (arith, above, below)) (follows operator) _ bad)
+
+  level-cast-append : level-lts.Need-cast-append (level-claims t) (level-at t) level.Post level-Inv-loop level-μ-loop
+  level-cast-append c =
+      let loop = c .before .before .before .before .before .before .before .before .before .before in
+      let start = loop .before .before .before .before .before in
+      omega (arith, loop .loop .inv .within, start .pre .1 .0 .few)
+
+  -- there is room for the entry of the operator
+  level-room : (right : level-lts.Else4 (level-claims t) (level-at t) level.Post level-Inv-loop level-μ-loop) → right .before .level .last .1 .0 < 200
+  level-room right =
+      let operator = right .before .before .before .before in
+      let loop = operator .before .before .before .before in
+      let operand = loop .before in
+      let start = operand .before .before .before .before in
+      let first = operand .before .unary .ensures .right (operand .if1 .left) in
+      let second = right .before .level .ensures .right (right .if4 .left) in
+      let on = passed second (omega (arith, operator .if3 .left, start .pre .1 .2)) in
+      omega (arith, second .most, on, loop .loop .inv .most, first .most, start .pre .1 .0 .room, start .pre .1 .0 .few)
+
+  level-append-requires : level-lts.Need-append-requires (level-claims t) (level-at t) level.Post level-Inv-loop level-μ-loop
+  level-append-requires c κs = level-room (c .before .before)
+
+  level-loop-less : level-lts.Need-loop-less (level-claims t) (level-at t) level.Post level-Inv-loop level-μ-loop
+  level-loop-less c =
+      let right = c .before .before .before in
+      let operator = right .before .before .before .before in
+      let start = operator .before .before .before .before .before .before .before .before .before in
+      let second = right .before .level .ensures .right (right .if4 .left) in
+      omega (arith, passed second (omega (arith, operator .if3 .left, start .pre .1 .2)))
+
+  level-loop-again : level-lts.Need-loop-again (level-claims t) (level-at t) level.Post level-Inv-loop level-μ-loop
+  level-loop-again c =
+      let right = c .before .before .before in
+      let operator = right .before .before .before .before in
+      let loop = operator .before .before .before .before in
+      let operand = loop .before in
+      let start = operand .before .before .before .before in
+      let first = operand .before .unary .ensures .right (operand .if1 .left) in
+      let second = right .before .level .ensures .right (right .if4 .left) in
+      let above = operator .before .if2 .left in
+      let below = operator .if3 .left in
+      let entry = c .append .ensures in
+      extended (start .pre .1 .2) first (loop .loop .inv) (omega (arith, above)) (omega (arith, above, below)) (follows operator)
+      second (level-room right) (entry .0) (entry .1)
+
+abbrev primary-claims : ℕ → primary-lts.Claims
+primary-claims t = (
+  code-at-reads.Asked,
+  code-at-reads.Learnt,
+  is-primary-reads.Asked,
+  is-primary-reads.Learnt,
+  append-reads.Asked,
+  append-reads.Learnt,
+  whole-below t,
+  whole.Post,
+)
+
+-- primary: the contexts are its start, `leaf` where a primary of one token stands, `opened` at a `(`, and `inner` where the expression in
+-- parentheses was found
+module _ (t : ℕ) where
+  is-leaf : (leaf : primary-lts.Then1 (primary-claims t) (primary-at t) primary.Post)
+      → let start = leaf .before .before .before in
+      isPrimary (codeAt (start .args .codes .now) (start .args .n .0) (start .args .i .0)) ≡ true
+  is-leaf leaf = ap isPrimary (sym (leaf .before .before .code-at .ensures)) ∙ sym (leaf .before .is-primary .ensures) ∙ leaf .if1 .taken
+
+  is-open : (opened : primary-lts.Else2 (primary-claims t) (primary-at t) primary.Post)
+      → let start = opened .before .before .before .before in
+      codeAt (start .args .codes .now) (start .args .n .0) (start .args .i .0) ≡ OPEN
+  is-open opened = sym (opened .before .before .before .code-at .ensures) ∙ opened .if2 .left
+
+  primary-code-at-requires : primary-lts.Need-code-at-requires (primary-claims t) (primary-at t) primary.Post
+  primary-code-at-requires start κs = start .pre .1 .few
+
+  primary-is-primary-requires : primary-lts.Need-is-primary-requires (primary-claims t) (primary-at t) primary.Post
+  primary-is-primary-requires c κs = search needs
+
+  primary-cast-append : primary-lts.Need-cast-append (primary-claims t) (primary-at t) primary.Post
+  primary-cast-append c =
+      let start = c .before .before .before .before .before .before in
+      omega (arith, start .pre .1 .within, start .pre .1 .few)
+
+  primary-append-requires : primary-lts.Need-append-requires (primary-claims t) (primary-at t) primary.Post
+  primary-append-requires c κs =
+      let leaf = c .before .before .before in
+      let start = leaf .before .before .before in
+      let inside = primary-inside (ended (start .args .codes .now) (start .args .n .0)) _ (is-leaf leaf) in
+      omega (arith, inside, start .pre .1 .room, start .pre .1 .few)
+
+  primary-add-result : primary-lts.Need-add-result (primary-claims t) (primary-at t) primary.Post
+  primary-add-result c =
+      let start = c .before .before .before .before .before .before .before .before in
+      omega (arith, start .pre .1 .within, start .pre .1 .few)
+
+  primary-returns : primary-lts.Need-returns (primary-claims t) (primary-at t) primary.Post
+  primary-returns c =
+      let leaf = c .before .before .before .before .before in
+      let start = leaf .before .before .before in
+      let codes = start .args .codes .now in
+      let fit = start .pre .1 in
+      let append = c .before .append in
+      let inside = primary-inside (ended codes (start .args .n .0)) _ (is-leaf leaf) in
+      let order = start .args .order .now in
+      let filled = start .args .filled .now in
+      let space : filled < length order = omega (arith, fit .long, inside, fit .room, fit .few) in
+      let nothing = sym (append-nil (take filled order)) in
+      found (omega (arith, inside, fit .few))
+      (record {
+        entries = start .args .i .0 ∷ [];
+        made = primary-leaf (ended codes _) _ (is-leaf leaf);
+        held = put order (take filled order) [] filled _ (append .ensures .0) (append .ensures .1) space nothing;
+        most = omega (arith, append .ensures .1);
+        long = put-long order filled _ (append .ensures .0) (fit .long);
+      })
+
+  primary-add-result-2 : primary-lts.Need-add-result-2 (primary-claims t) (primary-at t) primary.Post
+  primary-add-result-2 c =
+      let start = c .before .before .before .before .before in
+      omega (arith, start .pre .1 .within, start .pre .1 .few)
+
+  primary-returns-2 : primary-lts.Need-returns-2 (primary-claims t) (primary-at t) primary.Post
+  primary-returns-2 c =
+      let test = c .before .before in
+      let start = test .before .before .before in
+      let codes = start .args .codes .now in
+      let code = c .before .before .before .before .code-at .ensures in
+      let other = ap isPrimary (sym code) ∙ sym (test .before .is-primary .ensures) ∙ test .if1 .left in
+      faulty _ (primary-none (ended codes _) _ other (λ z. c .before .if2 .taken (code ∙ z)))
+
+  primary-add-t16 : primary-lts.Need-add-t16 (primary-claims t) (primary-at t) primary.Post
+  primary-add-t16 c =
+      let start = c .before .before .before .before .before .before .before in
+      omega (arith, start .pre .1 .within, start .pre .1 .few)
+
+  primary-whole-requires : primary-lts.Need-whole-requires (primary-claims t) (primary-at t) primary.Post
+  primary-whole-requires c κs =
+      let opened = c .before .before .before in
+      let start = opened .before .before .before .before in
+      let fit = start .pre .1 in
+      let inside = code-inside (ended (start .args .codes .now) (start .args .n .0)) _ OPEN (omega arith) (is-open opened) in
+      (omega (arith, start .pre .0, inside), record { few = fit .few; within = omega (arith, inside); room = omega (arith, fit .room); long = fit .long })
+
+  primary-returns-3 : primary-lts.Need-returns-3 (primary-claims t) (primary-at t) primary.Post
+  primary-returns-3 c =
+      let opened = c .before .before .before .before .before in
+      let start = opened .before .before .before .before in
+      let codes = start .args .codes .now in
+      handed (c .if3 .taken) (parentheses-bad (ended codes _) _ (is-open opened) _ (c .before .whole .ensures .wrong (c .if3 .taken)))
+
+  primary-code-at-requires-2 : primary-lts.Need-code-at-requires-2 (primary-claims t) (primary-at t) primary.Post
+  primary-code-at-requires-2 inner κs =
+      let start = inner .before .before .before .before .before .before .before .before .before in
+      start .pre .1 .few
+
+  primary-add-result-3 : primary-lts.Need-add-result-3 (primary-claims t) (primary-at t) primary.Post
+  primary-add-result-3 c =
+      let inner = c .before .before in
+      omega (arith, inner .if3 .left)
+
+  primary-returns-4 : primary-lts.Need-returns-4 (primary-claims t) (primary-at t) primary.Post
+  primary-returns-4 c =
+      let inner = c .before .before in
+      let opened = inner .before .before .before .before .before in
+      let start = opened .before .before .before .before in
+      let codes = start .args .codes .now in
+      let part = inner .before .whole .ensures .right (inner .if3 .left) in
+      faulty _
+      (parentheses-open (ended codes _) _ (is-open opened) (part .entries) _ (part .made)
+      (λ z. c .if4 .taken (c .before .code-at2 .ensures ∙ z)))
+
+  primary-add-result-4 : primary-lts.Need-add-result-4 (primary-claims t) (primary-at t) primary.Post
+  primary-add-result-4 c =
+      let inner = c .before .before in
+      omega (arith, inner .if3 .left)
+
+  primary-returns-5 : primary-lts.Need-returns-5 (primary-claims t) (primary-at t) primary.Post
+  primary-returns-5 c =
+      let inner = c .before .before in
+      let opened = inner .before .before .before .before .before in
+      let start = opened .before .before .before .before in
+      let codes = start .args .codes .now in
+      let part = inner .before .whole .ensures .right (inner .if3 .left) in
+      let closed = sym (c .before .code-at2 .ensures) ∙ c .if4 .left in
+      found (omega (arith, passed part tt, start .pre .1 .few))
+      (record {
+        entries = part .entries;
+        made = parentheses-closed (ended codes _) _ (is-open opened) (part .entries) _ (part .made) closed;
+        held = part .held;
+        most = omega (arith, part .most);
+        long = part .long;
+      })
+
+abbrev unary-claims : ℕ → unary-lts.Claims
+unary-claims t = (run-end-reads.Asked, run-end-reads.Learnt, primary-below t, primary.Post, append-run-reads.Asked, append-run-reads.Learnt)
+
+-- unary: the contexts are its start, `run` where the run of operators was passed, and `operand` where the primary after it was found
+module _ (t : ℕ) where
+  unary-run-end-requires : unary-lts.Need-run-end-requires (unary-claims t) (unary-at t) unary.Post
+  unary-run-end-requires start κs = (start .pre .1 .few, start .pre .1 .within)
+
+  unary-primary-requires : unary-lts.Need-primary-requires (unary-claims t) (unary-at t) unary.Post
+  unary-primary-requires c κs =
+      let run = c .before .before in
+      let fit = run .before .pre .1 in
+      let passes = run .run-end .ensures .0 in (
+        omega (arith, run .before .pre .0, passes .from),
+        record { few = fit .few; within = passes .to; room = omega (arith, fit .room, passes .from); long = fit .long },
+      )
+
+  unary-returns : unary-lts.Need-returns (unary-claims t) (unary-at t) unary.Post
+  unary-returns c =
+      let run = c .before .before .before .before in
+      let start = run .before in
+      let codes = start .args .codes .now in
+      let last = run .run-end .result .0 in
+      let passes = run .run-end .ensures .0 in
+      let bad = unary-none (ended codes _) last (run .run-end .ensures .1) _ (c .before .primary .ensures .wrong (c .if1 .taken)) in
+      handed (c .if1 .taken) (wrong codes _ _ (last - start .args .i .0) _ last (omega (arith, passes .from)) (passes .each) bad)
+
+  unary-append-run-requires : unary-lts.Need-append-run-requires (unary-claims t) (unary-at t) unary.Post
+  unary-append-run-requires c κs =
+      let operand = c .before .before in
+      let run = operand .before .before .before .before in
+      let fit = run .before .pre .1 in
+      let passes = run .run-end .ensures .0 in
+      let part = operand .before .primary .ensures .right (operand .if1 .left) in (
+        passes .from,
+        omega (arith, passes .to, fit .few),
+        omega (arith, part .most, fit .room, fit .few, passed part (omega arith), passes .from),
+        part .long,
+      )
+
+  unary-returns-2 : unary-lts.Need-returns-2 (unary-claims t) (unary-at t) unary.Post
+  unary-returns-2 c =
+      let operand = c .before .before .before in
+      let run = operand .before .before .before .before in
+      let start = run .before in
+      let codes = start .args .codes .now in
+      let first = start .args .i .0 in
+      let last = run .run-end .result .0 in
+      let passes = run .run-end .ensures .0 in
+      let part = operand .before .primary .ensures .right (operand .if1 .left) in
+      let own = unary-none (ended codes _) last (run .run-end .ensures .1) _ (part .made) in
+      let added = c .append-run .ensures in
+      found (omega (arith, passed part (omega arith), start .pre .1 .few))
+      (record {
+        entries = part .entries ++ back (last - first) first;
+        made = applied codes _ (part .entries) _ (last - first) first last (omega (arith, passes .from)) (passes .each) own;
+        held = both part (back (last - first) first) (added .held);
+        most = omega (arith, added .most, part .most, passes .from);
+        long = added .long;
+      })
+
+abbrev whole-claims : ℕ → whole-lts.Claims
+whole-claims t = (
+  level-below t,
+  level.Post,
+  code-at-reads.Asked,
+  code-at-reads.Learnt,
+  whole-below t,
+  whole.Post,
+  append-reads.Asked,
+  append-reads.Learnt,
+)
+
+-- whole: the contexts are its start, `condition` where an operand of level 12 was found, `question` at a `?` after it, `first` where the first
+-- arm was found, `colon` at a `:` after it, and `second` where the second arm was found
+module _ (t : ℕ) where
+  is-question : (question : whole-lts.Else2 (whole-claims t) (whole-at t) whole.Post)
+      → let start = question .before .before .before .before .before .before in
+      codeAt (start .args .codes .now) (start .args .n .0) (question .before .before .before .level .result) ≡ QUESTION
+  is-question question = sym (question .before .code-at .ensures) ∙ question .if2 .left
+
+  is-colon : (colon : whole-lts.Else4 (whole-claims t) (whole-at t) whole.Post)
+      → let start = colon .before .before .before .before .before .before .before .before .before .before .before .before in
+      codeAt (start .args .codes .now) (start .args .n .0) (colon .before .before .before .whole .result) ≡ COLON
+  is-colon colon = sym (colon .before .code-at2 .ensures) ∙ colon .if4 .left
+
+  whole-level-requires : whole-lts.Need-level-requires (whole-claims t) (whole-at t) whole.Post
+  whole-level-requires c κs =
+      let start = c .before .before in
+      (omega (arith, start .pre .0), (start .pre .1, omega arith, omega arith))
+
+  whole-returns : whole-lts.Need-returns (whole-claims t) (whole-at t) whole.Post
+  whole-returns c =
+      let start = c .before .before .before .before in
+      let codes = start .args .codes .now in
+      handed (c .if1 .taken) (expression-bad (ended codes _) _ _ (c .before .level .ensures .wrong (c .if1 .taken)))
+
+  whole-code-at-requires : whole-lts.Need-code-at-requires (whole-claims t) (whole-at t) whole.Post
+  whole-code-at-requires condition κs =
+      let start = condition .before .before .before .before in
+      start .pre .1 .few
+
+  whole-returns-2 : whole-lts.Need-returns-2 (whole-claims t) (whole-at t) whole.Post
+  whole-returns-2 c =
+      let condition = c .before .before in
+      let start = condition .before .before .before .before in
+      let codes = start .args .codes .now in
+      let part = condition .before .level .ensures .right (condition .if1 .left) in
+      found (condition .if1 .left)
+      (record {
+        entries = part .entries;
+        made = choice-none (ended codes _) _ (part .entries) _ (part .made) (λ z. c .if2 .taken (c .before .code-at .ensures ∙ z));
+        held = part .held;
+        most = part .most;
+        long = part .long;
+      })
+
+  whole-add-t16 : whole-lts.Need-add-t16 (whole-claims t) (whole-at t) whole.Post
+  whole-add-t16 c =
+      let condition = c .before .before .before .before in
+      omega (arith, condition .if1 .left)
+
+  whole-whole-requires : whole-lts.Need-whole-requires (whole-claims t) (whole-at t) whole.Post
+  whole-whole-requires c κs =
+      let question = c .before .before in
+      let condition = question .before .before in
+      let start = condition .before .before .before .before in
+      let part = condition .before .level .ensures .right (condition .if1 .left) in
+      let inside = code-inside (ended (start .args .codes .now) (start .args .n .0)) _ QUESTION (omega arith) (is-question question) in
+      (omega (arith, start .pre .0, passed part (omega arith), inside), onward part (start .pre .1) inside)
+
+  whole-returns-3 : whole-lts.Need-returns-3 (whole-claims t) (whole-at t) whole.Post
+  whole-returns-3 c =
+      let question = c .before .before .before .before in
+      let condition = question .before .before in
+      let start = condition .before .before .before .before in
+      let codes = start .args .codes .now in
+      let part = condition .before .level .ensures .right (condition .if1 .left) in
+      let bad = c .before .whole .ensures .wrong (c .if3 .taken) in
+      handed (c .if3 .taken) (choice-bad-first (ended codes _) _ (part .entries) _ (part .made) (is-question question) _ bad)
+
+  whole-code-at-requires-2 : whole-lts.Need-code-at-requires-2 (whole-claims t) (whole-at t) whole.Post
+  whole-code-at-requires-2 first κs =
+      let start = first .before .before .before .before .before .before .before .before .before .before in
+      start .pre .1 .few
+
+  whole-add-result : whole-lts.Need-add-result (whole-claims t) (whole-at t) whole.Post
+  whole-add-result c =
+      let first = c .before .before in
+      omega (arith, first .if3 .left)
+
+  whole-returns-4 : whole-lts.Need-returns-4 (whole-claims t) (whole-at t) whole.Post
+  whole-returns-4 c =
+      let first = c .before .before in
+      let question = first .before .before .before .before in
+      let condition = question .before .before in
+      let start = condition .before .before .before .before in
+      let codes = start .args .codes .now in
+      let part = condition .before .level .ensures .right (condition .if1 .left) in
+      let arm = first .before .whole .ensures .right (first .if3 .left) in
+      faulty _
+      (choice-no-colon (ended codes _) _ (part .entries) _ (part .made) (is-question question) (arm .entries) _ (arm .made)
+      (λ z. c .if4 .taken (c .before .code-at2 .ensures ∙ z)))
+
+  whole-add-t16-2 : whole-lts.Need-add-t16-2 (whole-claims t) (whole-at t) whole.Post
+  whole-add-t16-2 c =
+      let first = c .before .before .before .before in
+      omega (arith, first .if3 .left)
+
+  whole-whole-requires-2 : whole-lts.Need-whole-requires-2 (whole-claims t) (whole-at t) whole.Post
+  whole-whole-requires-2 c κs =
+      let colon = c .before .before in
+      let first = colon .before .before in
+      let question = first .before .before .before .before in
+      let condition = question .before .before in
+      let start = condition .before .before .before .before in
+      let part = condition .before .level .ensures .right (condition .if1 .left) in
+      let arm = first .before .whole .ensures .right (first .if3 .left) in
+      let inside = code-inside (ended (start .args .codes .now) (start .args .n .0)) _ QUESTION (omega arith) (is-question question) in
+      let within = code-inside (ended (start .args .codes .now) (start .args .n .0)) _ COLON (omega arith) (is-colon colon) in (
+        omega (arith, start .pre .0, passed part (omega arith), passed arm tt, within),
+        onward arm (onward part (start .pre .1) inside) within,
+      )
+
+  whole-returns-5 : whole-lts.Need-returns-5 (whole-claims t) (whole-at t) whole.Post
+  whole-returns-5 c =
+      let colon = c .before .before .before .before in
+      let first = colon .before .before in
+      let question = first .before .before .before .before in
+      let condition = question .before .before in
+      let start = condition .before .before .before .before in
+      let codes = start .args .codes .now in
+      let part = condition .before .level .ensures .right (condition .if1 .left) in
+      let arm = first .before .whole .ensures .right (first .if3 .left) in
+      let bad = c .before .whole2 .ensures .wrong (c .if5 .taken) in
+      handed (c .if5 .taken)
+      (choice-bad-second (ended codes _) _ (part .entries) _ (part .made) (is-question question) (arm .entries) _ (arm .made) (is-colon colon) _ bad)
+
+  whole-cast-append : whole-lts.Need-cast-append (whole-claims t) (whole-at t) whole.Post
+  whole-cast-append c =
+      let second = c .before .before in
+      let condition = second .before .before .before .before .before .before .before .before .before .before .before .before in
+      omega (arith, condition .if1 .left)
+
+  -- there is room for the two entries of a choice
+  whole-room : (second : whole-lts.Else5 (whole-claims t) (whole-at t) whole.Post) → second .before .whole2 .last .1 .0 + 1 < 200
+  whole-room second =
+      let colon = second .before .before .before .before in
+      let first = colon .before .before in
+      let condition = first .before .before .before .before .before .before in
+      let fit = condition .before .before .before .before .pre .1 in
+      let part = condition .before .level .ensures .right (condition .if1 .left) in
+      let arm = first .before .whole .ensures .right (first .if3 .left) in
+      let other = second .before .whole2 .ensures .right (second .if5 .left) in
+      omega (arith, passed other tt, passed arm tt, passed part (omega arith), other .most, arm .most, part .most, fit .room, fit .few)
+
+  whole-append-requires : whole-lts.Need-append-requires (whole-claims t) (whole-at t) whole.Post
+  whole-append-requires c κs =
+      let second = c .before .before in
+      omega (arith, whole-room second)
+
+  whole-append-requires-2 : whole-lts.Need-append-requires-2 (whole-claims t) (whole-at t) whole.Post
+  whole-append-requires-2 c κs =
+      let added = c .before .before in
+      let second = added .before .before .before in
+      omega (arith, added .append .ensures .1, whole-room second)
+
+  whole-returns-6 : whole-lts.Need-returns-6 (whole-claims t) (whole-at t) whole.Post
+  whole-returns-6 c =
+      let added = c .before .before .before in
+      let second = added .before .before .before in
+      let colon = second .before .before .before .before in
+      let first = colon .before .before in
+      let question = first .before .before .before .before in
+      let condition = question .before .before in
+      let start = condition .before .before .before .before in
+      let codes = start .args .codes .now in
+      let part = condition .before .level .ensures .right (condition .if1 .left) in
+      let arm = first .before .whole .ensures .right (first .if3 .left) in
+      let other = second .before .whole2 .ensures .right (second .if5 .left) in
+      let q = condition .before .level .result in
+      let entry = added .append .ensures in
+      let filler = c .append2 .ensures in
+      let order = added .append .last .0 in
+      let filled = added .append .last .1 .0 in
+      let after-condition = take (condition .before .level .last .1 .0) (condition .before .level .last .0) in
+      let after-first = take (first .before .whole .last .1 .0) (first .before .whole .last .0) in
+      let long = put-long (second .before .whole2 .last .0) (second .before .whole2 .last .1 .0) q (entry .0) (other .long) in
+      let held = extra other q (omega (arith, whole-room second)) (entry .0) (entry .1) in
+      let space : filled < length order = omega (arith, entry .1, long, whole-room second) in
+      let full = put order after-first (other .entries ++ (q ∷ [])) filled FILLER (filler .0) (filler .1) space held in
+      found (second .if5 .left)
+      (record {
+        entries = part .entries ++ (arm .entries ++ (other .entries ++ (q ∷ FILLER ∷ [])));
+        made = choice-made (ended codes _) _ (part .entries) q (part .made) (is-question question) (arm .entries) _ (arm .made) (is-colon colon) _ _
+            (other .made);
+        held = chosen (take (start .args .filled .now) (start .args .order .now)) after-condition after-first (part .entries) (arm .entries) (other .entries) q
+            (part .held) (arm .held) full;
+        most = omega (arith, entry .1, filler .1, other .most, arm .most, part .most);
+        long = put-long order filled FILLER (filler .0) long;
+      })
+
+pub +level+primary+unary+whole-spec : {M : Type 1} → statement M
++level+primary+unary+whole-spec = close μ-level μ-primary μ-unary μ-whole (λ t. level-lts.spec (level-claims t)
     (level-at t)
     level.Post
     level-Inv-loop
@@ -499,26 +661,17 @@ pub +level+primary+unary+whole-spec : {M : Type 1} → statement M
     (level-add-t20 t)
     (level-level-requires t)
     (level-returns-4 t)
-    (level-cast-place t)
-    (level-place-requires t)
+    (level-cast-append t)
+    (level-append-requires t)
     (level-loop-less t)
     (level-loop-again t))
-    (λ t. primary-lts.spec (
-      code-at-reads.Asked,
-      code-at-reads.Learnt,
-      is-primary-reads.Asked,
-      is-primary-reads.Learnt,
-      place-reads.Asked,
-      place-reads.Learnt,
-      whole-below t,
-      whole.Post,
-    )
+    (λ t. primary-lts.spec (primary-claims t)
     (primary-at t)
     primary.Post
     (primary-code-at-requires t)
     (primary-is-primary-requires t)
-    (primary-cast-place t)
-    (primary-place-requires t)
+    (primary-cast-append t)
+    (primary-append-requires t)
     (primary-add-result t)
     (primary-returns t)
     (primary-add-result-2 t)
@@ -531,31 +684,15 @@ pub +level+primary+unary+whole-spec : {M : Type 1} → statement M
     (primary-returns-4 t)
     (primary-add-result-4 t)
     (primary-returns-5 t))
-    (λ t. unary-lts.spec (
-      run-end-reads.Asked,
-      run-end-reads.Learnt,
-      primary-below t,
-      primary.Post,
-      signs-reads.Asked,
-      signs-reads.Learnt,
-    )
+    (λ t. unary-lts.spec (unary-claims t)
     (unary-at t)
     unary.Post
     (unary-run-end-requires t)
     (unary-primary-requires t)
     (unary-returns t)
-    (unary-signs-requires t)
+    (unary-append-run-requires t)
     (unary-returns-2 t))
-    λ t. whole-lts.spec (
-      level-below t,
-      level.Post,
-      code-at-reads.Asked,
-      code-at-reads.Learnt,
-      whole-below t,
-      whole.Post,
-      place-reads.Asked,
-      place-reads.Learnt,
-    )
+    λ t. whole-lts.spec (whole-claims t)
     (whole-at t)
     whole.Post
     (whole-level-requires t)
@@ -571,7 +708,7 @@ pub +level+primary+unary+whole-spec : {M : Type 1} → statement M
     (whole-add-t16-2 t)
     (whole-whole-requires-2 t)
     (whole-returns-5 t)
-    (whole-cast-place t)
-    (whole-place-requires t)
-    (whole-place-requires-2 t)
+    (whole-cast-append t)
+    (whole-append-requires t)
+    (whole-append-requires-2 t)
     (whole-returns-6 t)

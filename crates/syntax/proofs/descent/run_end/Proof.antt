@@ -30,24 +30,32 @@ is-unary-requires c κs = search needs
 
 add-j : tie.Need-add-j Inv-loop μ-loop
 add-j c =
-    let r = c .before .before .before .loop .inv in
-    omega (arith, r .to, c .before .before .before .before .pre .0)
+    let loop = c .before .before .before in
+    let start = loop .before in
+    omega (arith, loop .loop .inv .to, start .pre .0)
 
-sign : (c : tie.Then1 Inv-loop μ-loop) → isUnary (codeAt (c .before .before .before .before .args .codes .now) (c .before .before .before .before .args .n .0) (c .before .before .before .loop .j)) ≡ true
-sign c = ap isUnary (sym (c .before .before .code-at .ensures)) ∙ sym (c .before .is-unary .ensures) ∙ c .if1 .taken
+-- one operator more
+unary : (c : tie.Then1 Inv-loop μ-loop)
+    → let loop = c .before .before .before in
+    let start = loop .before in
+    isUnary (codeAt (start .args .codes .now) (start .args .n .0) (loop .loop .j)) ≡ true
+unary c = ap isUnary (sym (c .before .before .code-at .ensures)) ∙ sym (c .before .is-unary .ensures) ∙ c .if1 .taken
 
 loop-less : tie.Need-loop-less Inv-loop μ-loop
 loop-less c =
-    let s = c .before .before .before .before in
-    omega (arith, unary-inside (ended (s .args .codes .now) (s .args .n .0)) (c .before .before .before .loop .j) (sign c))
+    let start = c .before .before .before .before in
+    omega (arith, unary-inside (ended (start .args .codes .now) (start .args .n .0)) _ (unary c))
 
 loop-again : tie.Need-loop-again Inv-loop μ-loop
 loop-again c =
-    let s = c .before .before .before .before in
-    longer (s .args .codes .now) (s .args .n .0) (s .args .i .0) (c .before .before .before .loop .j) (c .before .before .before .loop .inv) (sign c)
+    let loop = c .before .before .before in
+    let start = loop .before in
+    longer (start .args .codes .now) (start .args .n .0) (start .args .i .0) (loop .loop .j) (loop .loop .inv) (unary c)
 
 returns : tie.Need-returns Inv-loop μ-loop
-returns c = (c .before .before .before .loop .inv, ap isUnary (sym (c .before .before .code-at .ensures)) ∙ sym (c .before .is-unary .ensures) ∙ c .if1 .left)
+returns c =
+    let loop = c .before .before .before in
+    (loop .loop .inv, ap isUnary (sym (c .before .before .code-at .ensures)) ∙ sym (c .before .is-unary .ensures) ∙ c .if1 .left)
 
 pub run-end-spec : {M : Type 1} → statement M
 run-end-spec =

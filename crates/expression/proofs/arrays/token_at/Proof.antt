@@ -1,8 +1,8 @@
 -- The token is there.
 use borrow.Author.Tests.{lt-ltb}
 use borrow.Author.Needs.{needs}
-use Rattle.expression.proofs.tokens.token_at.Statement.{statement}
-use Rattle.expression.proofs.tokens.token_at.Tie as tie
+use Rattle.expression.proofs.arrays.token_at.Statement.{statement}
+use Rattle.expression.proofs.arrays.token_at.Tie as tie
 
 element-copy-out-t10 : tie.Need-element-copy-out-t10
 element-copy-out-t10 c = search needs
