@@ -21,7 +21,7 @@ use Rattle.grammar.specs.Parse.{Outcome, refused as underived, accepted, parse}
 use Rattle.value.specs.Values.{Value, number, string, wide, fault}
 use Rattle.value.specs.Attributes.{Attributes}
 use Rattle.expression.specs.Meaning.{codeOf, meaning}
-use Rattle.evaluation.specs.Evaluation.{Evaluation, lineOf, finished, clashes, judged, tokenIn, concluded, ofTokens, ended, inSoundTable, evaluation}
+use Rattle.evaluation.specs.Evaluation.{Evaluation, lineOf, finished, clashes, tokenIn, concluded, ofTokens, ended, inSoundTable, evaluation}
 use Rattle.evaluation.specs.Answers.{WithoutLine}
 
 -- where reading ended with a refusal, that has line 0

@@ -2,7 +2,7 @@
 use Prim.Native.Nat.{ℕ, zero, suc, _+_, _-_, _≤_, _<_}
 use native.Mathlib.Numerals.{add-one}
 use native.Mathlib.Omega.{arith}
-use mathlib.Core.Path.{_≡_, refl, sym, ap, _∙_}
+use mathlib.Core.Path.{_≡_, refl, sym, ap}
 use mathlib.Core.Bool.{true, false}
 use mathlib.Core.List.{List, [], _∷_}
 use lib.ListN.{length, take, drop, getD}
@@ -12,7 +12,7 @@ use Rattle.lexeme.specs.Codes.{QUESTION}
 use Rattle.grammar.specs.Grammar.{isPrimary}
 use Rattle.value.specs.Attributes.{Attributes, unaryFrom, binaryFrom, choiceFrom}
 use Rattle.operands.specs.Stack.{operandAt, countAt, piled, Leaves}
-use Rattle.operands.proofs.Piles.{pile-length, latest, alone}
+use Rattle.operands.proofs.Piles.{pile-length, latest}
 use Rattle.syntax.specs.Order.{UNARY, FILLER}
 use Rattle.expression.specs.Postfix.{Input, codeIn, primaryIn, Entry, operand, unary, binary, choice, filler, entryOf, OnOne, OnTwo, OnThree, Does, Gives}
 

@@ -10,7 +10,7 @@ use Rattle.grammar.specs.Climb.{Climbs}
 use Rattle.grammar.proofs.Climb.{nothing, joined-bad, joined, climbed}
 use Rattle.syntax.specs.Order.{codeAt, postfix, Ordered}
 use Rattle.syntax.specs.Descent.{Fit, Appended, Appends}
-use Rattle.syntax.proofs.Orders.{ended, put, put-long, found, after, passed, extra, both}
+use Rattle.syntax.proofs.Orders.{ended, put-long, found, after, passed, extra, both}
 
 -- the level of a token's code that was read
 pub read : {o d l : ℕ} → o ≡ d → l ≡ levelOf o → levelOf d ≡ l

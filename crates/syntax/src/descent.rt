@@ -52,7 +52,8 @@ fn append_run(order: &mut [u16; 200], filled: &mut usize, i: TokenNumber, j: Tok
     ensures { λ r. ⌜ AppendsRun (i .0) (j .0) (now (filled .entry)) (now (order .entry)) (now (filled .exit)) (now (order .exit)) ⌝ }
 {
     let first = i.0;
-    let mut at = j.0;
+    let last = j.0;
+    let mut at = last;
     while first < at {
         at -= 1;
         append(order, filled, (tokens::UNARY + at) as u16);

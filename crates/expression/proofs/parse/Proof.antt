@@ -1,9 +1,8 @@
 -- The order that the descent wrote leaves what the grammar's parser makes of the tokens; there is room for its operands.
 use Prim.Native.Nat.{ℕ, _≤_, _+_}
 use native.Mathlib.Omega.{arith}
-use mathlib.Core.Path.{_≡_}
 use mathlib.Core.List.{List}
-use lib.ListN.{length, take}
+use lib.ListN.{take}
 use lib.Seq.{length-take-le}
 use borrow.Author.Needs.{needs}
 use Rattle.grammar.specs.Grammar.{expression}

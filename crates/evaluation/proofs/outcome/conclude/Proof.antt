@@ -1,5 +1,5 @@
 -- What the descent found is what the grammar's parser finds; a token left over is in the way.
-use mathlib.Core.Path.{sym, _∙_}
+use mathlib.Core.Path.{_∙_}
 use borrow.Author.Needs.{needs}
 use Rattle.grammar.proofs.Steps.{whole-bad, whole-rest, whole-made}
 use Rattle.evaluation.proofs.outcome.conclude.Statement.{statement}

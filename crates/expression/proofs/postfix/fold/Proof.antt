@@ -1,6 +1,6 @@
 -- The loop's invariant: with the operands that wait, the entries that are left leave whatever all entries leave. The measure is how many
 -- are left.
-use Prim.Native.Nat.{ℕ, _+_, _-_, _≤_, _<_}
+use Prim.Native.Nat.{ℕ, _-_, _≤_, _<_}
 use native.Mathlib.Omega.{arith}
 use mathlib.Core.Path.{_≡_, refl, sym, ap, _∙_}
 use mathlib.Core.Bool.{true, false}

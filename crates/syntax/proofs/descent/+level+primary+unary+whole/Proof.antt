@@ -1,6 +1,6 @@
 -- The descent meets its contracts: each way out of a member is a way out of a step of the grammar's parser, whose law it hands the
 -- facts at hand. The measure falls since tokens are passed or a tighter level is asked for.
-use Prim.Native.Nat.{ℕ, suc, _+_, _*_, _-_, _≤_, _<_}
+use Prim.Native.Nat.{ℕ, suc, _+_, _*_, _-_, _<_}
 use native.Mathlib.Omega.{arith}
 use mathlib.Core.Path.{_≡_, sym, ap, _∙_}
 use mathlib.Core.Bool.{true}

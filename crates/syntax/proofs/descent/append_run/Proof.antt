@@ -10,11 +10,11 @@ use Rattle.syntax.proofs.descent.append_run.Statement.{statement}
 use Rattle.syntax.proofs.descent.append_run.Tie as tie
 
 abbrev Inv-loop : tie.InvT-loop
-Inv-loop order₀ filled₀ first at₀ order filled at =
-    (first ≤ at) × (at ≤ at₀) × (filled ≡ filled₀ + (at₀ - at)) × (length order ≡ 200) × (take filled order ≡ take filled₀ order₀ ++ back (at₀ - at) at)
+Inv-loop order₀ filled₀ first last at₀ order filled at =
+    (first ≤ at) × (at ≤ last) × (filled ≡ filled₀ + (last - at)) × (length order ≡ 200) × (take filled order ≡ take filled₀ order₀ ++ back (last - at) at)
 
 abbrev μ-loop : tie.MeasureT-loop
-μ-loop order₀ filled₀ first at₀ order filled at = at
+μ-loop order₀ filled₀ first last at₀ order filled at = at
 
 loop-holds : tie.Need-loop-holds Inv-loop μ-loop
 loop-holds c =
