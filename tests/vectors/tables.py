@@ -101,6 +101,10 @@ TABLES = [
     (numbered(511) + record(b"O", 3, b""), False),
 ]
 
+# the bytes next to the ranges of letters and digits are in no name
+for beside in (b"@", b"[", b"`", b"{", b"/", b":"):
+    TABLES += [(record(name, NUMBER, 1), False) for name in (b"A" + beside, beside + b"A", b"a" + beside + b".b", b"a." + beside + b"b")]
+
 T = A + B + C + P
 X64 = b"X" * 64
 BIG = b"".join(sorted([record(X64, STRING, b"x" * 56), record(b"X" * 63, NUMBER, 63), record(b"a.b", WIDE, b"a\0\0"), record(b"AB", NUMBER, 256)]))

@@ -237,6 +237,15 @@ VECTORS = [
     (b"'((((((((((((((((('", 0, [string(b"'((((((((((((((((('")]),
 ]
 
+# The bytes next to the ranges of letters and digits are in no name.
+for beside in (b"@", b"[", b"`", b"{", b"/", b":"):
+    VECTORS += [
+        (b"$(A" + beside + b")", 3, []),
+        (b"$(" + beside + b"A)", 3, []),
+        (b"a" + beside + b".b", 3, []),
+        (b"a." + beside + b"b", 3, []),
+    ]
+
 # Places: an expression, and where each of its tokens starts.
 PLACES = [
     (b"  1 +\t$(A)#", [2, 4, 6]),
