@@ -12,6 +12,7 @@ import limits
 import lines
 import precedence
 import promises
+import readings
 import records
 import refusals
 import smallest
@@ -48,7 +49,7 @@ def check_sections():
 printed = check_examples(MANUAL)
 check_examples(README)
 check_sections()
-for part in limits, tokens, precedence, kinds, values, lines, records, fields, smallest, promises:
+for part in limits, tokens, precedence, kinds, values, lines, records, fields, smallest, promises, readings:
     for what, got, wanted in part.checks():
         check("%s, %s" % (part.__name__, what), got, wanted)
 for what, got, wanted in refusals.checks(printed["Refusals"]):

@@ -46,10 +46,10 @@ CONDITIONS = [
     (b" $(" + LONGEST_MACRO + b"X)", (3, 0)),
     (b" " + LONGEST_PCD + b" == 65", (4, 1)),
     # 22: no blank directly after the word
-    (b"", 22),
-    (b"#", 22),
+    (b"", 22),  # R23
+    (b"#", 22),  # R23
     (b"# 1", 22),
-    (b"(1)", 22),
+    (b"(1)", 22),  # R23
     (b"1", 22),
     (b"!0", 22),
     (b"$(A)", 22),
@@ -91,11 +91,11 @@ CONDITIONS = [
     (b" " + b"(" * 17 + b"1" + b")" * 17, 6),
     (b" " + b"(" * 16 + b"1" + b")" * 16, (4, 0)),
     # 7, without any token too
-    (b" ", 7),
+    (b" ", 7),  # R23
     (b"\t", 7),
     (b" \t ", 7),
     (b" #", 7),
-    (b" # c", 7),
+    (b" # c", 7),  # R23
     (b" 1 2", 7),
     (b" ()", 7),
     (b" 1 +", 7),
@@ -128,7 +128,7 @@ CONDITIONS = [
     (b" $(A)", 13),
     (b" $(M)", 13),
     (b" g.Num", 13),
-    (b" 'a'", 13),
+    (b" 'a'", 13),  # R24
     (b" ''", 13),
     (b" \"1\"", 13),
     (b" L'a'", 13),
@@ -158,7 +158,7 @@ NAMES = [
     (b"\tA", True),
     (b" \t A \t ", True),
     (b" A # c", True),
-    (b" A#c", True),
+    (b" A#c", True),  # R22
     (b" A#", True),
     (b" $(A)", True),
     (b"\t\t$(A)\t", True),
@@ -185,7 +185,7 @@ NAMES = [
     (b" L", False),
     (b" TRU", False),
     # no record can have such a name
-    (b" " + LONGEST_MACRO + b"X", False),
+    (b" " + LONGEST_MACRO + b"X", False),  # R28
     (b" $(" + LONGEST_MACRO + b"X)", False),
     (b" " + LONGEST_MACRO[1:], False),
     (b" " + b"X" * 1000, False),
@@ -251,7 +251,7 @@ NOTHING = [
     (b"\t", True),
     (b" \t \t", True),
     (b"#", True),
-    (b"#c", True),
+    (b"#c", True),  # R22
     (b" # c", True),
     (b"\t#!if @", True),
     (b"# \xff\0\r x", True),

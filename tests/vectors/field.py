@@ -14,7 +14,7 @@ FIELDS = [
     (b"1", BOOLEAN, b"\1"),
     (b"FALSE", BOOLEAN, b"\0"),
     (b"TRUE", BOOLEAN, b"\1"),
-    (b"1 + 1 == 2", BOOLEAN, b"\1"),
+    (b"1 + 1 == 2", BOOLEAN, b"\1"),  # R19
     (b"$(NOPE)", BOOLEAN, b"\0"),
     (b"0", UINT8, b"\0"),
     (b"1", UINT8, b"\1"),
@@ -83,8 +83,8 @@ REFUSED = [
     # 24
     (b"0", TABLE, VOID, 8, 24),
     (b"$(NOPE)", TABLE, VOID, 8, 24),
-    (b"18446744073709551615", TABLE, VOID, 8, 24),
-    *[(text, TABLE, datum, 8, 24) for text in (b"''", b"'1'", b"L'1'", b"$(S)", b"g.Wide") for datum in range(1, 6)],
+    (b"18446744073709551615", TABLE, VOID, 8, 24),  # R20
+    *[(text, TABLE, datum, 8, 24) for text in (b"''", b"'1'", b"L'1'", b"$(S)", b"g.Wide") for datum in range(1, 6)],  # R20
     # 23, whatever the kind
     *[(text, TABLE, datum, 8, 23) for text in (b"0", b"'a'", b"L''") for datum in (6, 7, 8, 16, 127, 128, 254, 255)],
     # the expression's own before 23 and all that follow

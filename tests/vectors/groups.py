@@ -47,7 +47,7 @@ TAKEN = [
     (b"!if 0|a|!endif", ("305", 0)),
     (b"!if 1|!endif", ("45", 0)),
     (b"!if 0|!endif|a", ("351", 0)),
-    (b"!if 1|!else|!endif", ("435", 0)),
+    (b"!if 1|!else|!endif", ("435", 0)),  # R21
     (b"!if 0|!else|!endif", ("345", 0)),
     (b"!if 1|a|!else|b|!endif|c", ("413051", 0)),
     (b"!if 0|a|!else|b|!endif|c", ("304151", 0)),
@@ -57,7 +57,7 @@ TAKEN = [
     (b"!if 1|a|!elseif 1|b|!else|c|!endif", ("4120305", 0)),
     (b"!if 1|a|!elseif 0|b|!endif|c", ("412051", 0)),
     (b"!if 0|a|!elif 1|b|!elif 1|c|!elif 0|d|!else|e|!endif|f", ("304120203051", 0)),
-    (b"!if 0|!elif 0|!elseif 0|!elif 1|!elseif 1|!else|!endif", ("3334235", 0)),
+    (b"!if 0|!elif 0|!elseif 0|!elif 1|!elseif 1|!else|!endif", ("3334235", 0)),  # R31
     (b"!if 0|!elseif 0|!elif 0|!else|a|!endif", ("333415", 0)),
     (b"!ifdef A|a|!else|b|!endif", ("30415", 0)),
     (b"!ifndef A|a|!else|b|!endif", ("41305", 0)),
@@ -97,7 +97,7 @@ TAKEN = [
 # What is not read is not looked at, whatever stands there.
 UNREAD = [
     # `!elseif` after a taken branch
-    (b"!if 1|!elseif 1 / 0|!endif", ("425", 0)),
+    (b"!if 1|!elseif 1 / 0|!endif", ("425", 0)),  # R33
     (b"!if 1|!elseif|!endif", ("425", 0)),
     (b"!if 1|!elseif@|!endif", ("425", 0)),
     (b"!if 1|!elseif(1)|!endif", ("425", 0)),
@@ -186,9 +186,9 @@ OUT_OF_PLACE = [
     (b"!if 0|!elif 1|!else|!elif 0|!endif", (19, 4)),
     (b"!ifdef A|!else|a|!else|!endif", (19, 4)),
     (b"!if 1|!else|!if 1|!endif|!else|!endif", (19, 5)),
-    (b"!if 0|!if 1|!else|!elif @|", (19, 4)),
+    (b"!if 0|!if 1|!else|!elif @|", (19, 4)),  # R27
     (b"!if 0|!if 1|!else|!elseif @|", (19, 4)),
-    (b"!if 0|!if 1|!else|!else|!endif|!endif", (19, 4)),
+    (b"!if 0|!if 1|!else|!else|!endif|!endif", (19, 4)),  # R27
     (b"!if 0|!ifdef A|!else x|!else x|!endif|!endif", (19, 4)),
     (b"!if 0|!ifndef A|!else|!elif|!endif|!endif", (19, 4)),
     (b"!if 1|!else|!if 1|!else|!elseif|!endif|!endif", (19, 5)),

@@ -134,7 +134,7 @@ ORDER = [
     (SIXTEEN + b"!ifx", (18, 17)),
     (b"!ifx\n!endif", (18, 1)),
     # 19 before 22
-    (b"!else x", (19, 1)),
+    (b"!else x", (19, 1)),  # R30
     (b"!endif x", (19, 1)),
     (b"!endif_x", (19, 1)),
     (b"!elseif", (19, 1)),
@@ -148,7 +148,7 @@ ORDER = [
     (b"!elseif 1 / 0", (19, 1)),
     (b"!elif ", (19, 1)),
     (b"!elif 2", (19, 1)),
-    (b"!if 0\n!else\n!elseif @", (19, 3)),
+    (b"!if 0\n!else\n!elseif @", (19, 3)),  # R30
     (b"!if 0\n!else\n!elseif 2", (19, 3)),
     # 20 before 22, the expression's own and 13
     (SIXTEEN + b"!if", (20, 17)),
@@ -172,7 +172,7 @@ ORDER = [
 
 WITHOUT_TABLE = SIZES + LINES + ORDER
 VECTORS = [(file, b"", wanted) for file, wanted in WITHOUT_TABLE]
-# 1 before everything else.
+# 1 before everything else; every lent mark is then 255 (R29).
 VECTORS += [(file, MALFORMED, (1, 0)) for file, wanted in WITHOUT_TABLE + [(b"", None), (b"x", None), (b"!if 1\n!endif", None)]]
 VECTORS += [
     (b"", b"\0", (1, 0)),

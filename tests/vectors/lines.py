@@ -30,12 +30,12 @@ VECTORS = [
     (b"x\r!if 1\r", ("1", 0)),
     (b"!if 1\r\nx\r\n!else\r\ny\r\n!endif\r\nz\r\n", ("413051", 0)),
     (b"!if 1\r\nx\n!else\ny\r\n!endif\nz", ("413051", 0)),
-    (b"!if 0\r\n!elseif 1\r\n!endif\r\n", ("345", 0)),
-    (b"!if 1\r", (3, 1)),
+    (b"!if 0\r\n!elseif 1\r\n!endif\r\n", ("345", 0)),  # R32
+    (b"!if 1\r", (3, 1)),  # R26
     (b"!if 1\r\n!endif\r", (22, 2)),
-    (b"!if 1\n!endif\r", (22, 2)),
+    (b"!if 1\n!endif\r", (22, 2)),  # R26
     (b"!if 1\n!else\r", (22, 2)),
-    (b"!if 1\r\r\n!endif\r\n", (3, 1)),
+    (b"!if 1\r\r\n!endif\r\n", (3, 1)),  # R26
     (b"!if 1\n!else\r\r\n!endif\n", (22, 2)),
     (b"!if 1\n!endif\r\r\n", (22, 2)),
     (b"!if 1\n!endif \r\n", ("45", 0)),
@@ -76,7 +76,7 @@ VECTORS = [
     (b"!error no board\n", ("1", 0)),
     (b" \t!include x\n\t !error\n", ("11", 0)),
     (b"!include\n!error\n", ("11", 0)),
-    (b"!include1\n!error_\n!include!\n!error#", ("1111", 0)),
+    (b"!include1\n!error_\n!include!\n!error#", ("1111", 0)),  # R25
     (b"!include\x80\n!error\xe9", ("11", 0)),
     (b"!if 0\n!include x\n!error x\n!endif\n", ("3005", 0)),
     (b"!if 1\n!include x\n!error x\n!endif\n", ("4115", 0)),
@@ -129,23 +129,23 @@ VECTORS = [
     (b"!if 0\n!foo\n!endif\n", (18, 2)),
     (b"!if 0\n!\n!endif\n", (18, 2)),
     (b"!if 0\n!IF 1\n!endif\n", (18, 2)),
-    (b"!if 0\n!includes\n!endif\n", (18, 2)),
-    (b"!if 0\n!ifx\n!endif\n", (18, 2)),
+    (b"!if 0\n!includes\n!endif\n", (18, 2)),  # R25
+    (b"!if 0\n!ifx\n!endif\n", (18, 2)),  # R25
     (b"!if 1\n!else\n!bad\n!endif\n", (18, 3)),
     (b"!if 0\n!ifdef A\n!if 1\n!elsif\n!endif\n!endif\n!endif\n", (18, 4)),
     # letters only: what follows a word without a blank is text
-    (b"!if1\n", (22, 1)),
+    (b"!if1\n", (22, 1)),  # R25
     (b"!if_\n", (22, 1)),
     (b"!if\xe9\n", (22, 1)),
     (b"!if!1\n", (22, 1)),
-    (b"!ifdef_A\n", (22, 1)),
+    (b"!ifdef_A\n", (22, 1)),  # R21
     (b"!ifndef2\n", (22, 1)),
-    (b"!if 0\n!elseif1\n!endif\n", (22, 2)),
+    (b"!if 0\n!elseif1\n!endif\n", (22, 2)),  # R21
     (b"!if 0\n!elif_\n!endif\n", (22, 2)),
-    (b"!if 1\n!else9\n!endif\n", (22, 2)),
+    (b"!if 1\n!else9\n!endif\n", (22, 2)),  # R25
     (b"!if 1\n!else\xe9\n!endif\n", (22, 2)),
     (b"!if 1\n!endif_x\n", (22, 2)),
     (b"!if 1\n!endif!\n", (22, 2)),
-    (b"!if 0\n!if1\n!endif_x\n!endif\n", ("3225", 0)),
+    (b"!if 0\n!if1\n!endif_x\n!endif\n", ("3225", 0)),  # R25
     (b"!if 0\n!if_\n!else9\n!endif\xe9\n!endif\n", ("32225", 0)),
 ]

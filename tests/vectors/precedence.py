@@ -105,7 +105,7 @@ VECTORS = [
     (b"(4 | 1 AND 2)", 1, 2),
     (b"1 and 2 ^ 2", 0, 2),
     # 10, to the left, which the count shows
-    (b"0 AND 1 AND 1 / 0", 0, 2),
+    (b"0 AND 1 AND 1 / 0", 0, 2),  # R18
     (b"0 && 1 && 1", 0, 2),
     (b"1 AND 0 and 1", 0, 2),
     (b"1 AND 2 AND 3", 1, 2),
@@ -122,7 +122,7 @@ VECTORS = [
     (b"0 OR 1 XOR 1", 0, 2),
     (b"(1 || 1 xor 1)", 1, 1),
     # 12, to the left, which the count shows
-    (b"1 OR 0 OR 1 / 0", 1, 2),
+    (b"1 OR 0 OR 1 / 0", 1, 2),  # R18
     (b"(1 || 0 || 1)", 1, 2),
     (b"(0 || 1 OR 0)", 1, 2),
     (b"0 or 0 OR 3", 1, 2),

@@ -93,7 +93,7 @@ TABLES = [
     (record(b"A", STRING, b"ab", length=1), False),
     (record(b"A", STRING, b"", padding=b"\0" * 55 + b"\1"), False),
     # a string may hold any byte, zeros and line ends too
-    (record(b"A", STRING, b"a\0\0"), True),
+    (record(b"A", STRING, b"a\0\0"), True),  # R34
     (record(b"A", STRING, b"\r\n\"'\0\xff"), True),
     (record(b"A", WIDE, b"\0" * 56), True),
     # one bad record among good ones
@@ -120,7 +120,7 @@ LOOKUPS = [
     (T, b"D", (MISSING, 0, 0)),
     (T, b"", (MISSING, 0, 0)),
     (T, b"\0", (MISSING, 0, 0)),
-    (T, b"A\0", (MISSING, 0, 0)),
+    (T, b"A\0", (MISSING, 0, 0)),  # R35
     (T, b"A" + b"\0" * 63, (MISSING, 0, 0)),
     (T, b"AA", (MISSING, 0, 0)),
     (T, b"a", (MISSING, 0, 0)),
@@ -128,10 +128,10 @@ LOOKUPS = [
     (T, b"gToken.PcdOn", (MISSING, 0, 0)),
     (T, b"gToken.PcdOneX", (MISSING, 0, 0)),
     (T, b"$(A)", (MISSING, 0, 0)),
-    (BIG, X64, (STRING, BIG.index(X64) + 72, 56)),
+    (BIG, X64, (STRING, BIG.index(X64) + 72, 56)),  # R35
     (BIG, b"X" * 63, (NUMBER, 63, 0)),
     (BIG, b"X" * 62, (MISSING, 0, 0)),
-    (BIG, b"X" * 65, (MISSING, 0, 0)),
+    (BIG, b"X" * 65, (MISSING, 0, 0)),  # R35
     (BIG, b"X" * 1000, (MISSING, 0, 0)),
     (BIG, X64 + b"\0", (MISSING, 0, 0)),
     (BIG, b"a.b", (WIDE, BIG.index(b"a.b\0") + 72, 3)),

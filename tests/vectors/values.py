@@ -11,15 +11,15 @@ EXPRESSION, IN_TABLE = 0, 1
 # Numbers: an expression, its value and its count.
 NUMBERS = [
     # document 01's own list; the other ones of it are in precedence.py and refusals.py
-    (b"0 AND 1 / 0", 0, 1),
-    (b"1 ? 2 : 1 / 0", 2, 1),
+    (b"0 AND 1 / 0", 0, 1),  # R14
+    (b"1 ? 2 : 1 / 0", 2, 1),  # R14
     (b"(1 | 2)", 3, 1),
     (b'"zero" < "three"', 0, 1),
     (b'"thirty" < "thirty1"', 1, 1),
     (b"1 << 63", 9223372036854775808, 1),
     (b"(" * 16 + b"1" + b")" * 16, 1, 0),
     (b"18446744073709551615", LARGEST, 0),
-    (b"$(NOPE) == 0", 1, 1),
+    (b"$(NOPE) == 0", 1, 1),  # R17
     # literals and truth words
     (b"0", 0, 0),
     (b"0x0", 0, 0),
@@ -167,12 +167,12 @@ NUMBERS = [
     (LONGEST_PCD, 65, 0),
     (b"(" * 16 + b"$(A)" + b")" * 16, 2, 0),
     # bars inside parentheses, and the words anywhere
-    (b"((1) | 2)", 3, 1),
+    (b"((1) | 2)", 3, 1),  # R16
     (b"((1 | 2) | 4)", 7, 2),
     (b"(1 ? 2 | 1 : 4)", 3, 2),
     (b"1 ? (2 | 1) : 4", 3, 2),
     (b"((1) || (0))", 1, 1),
-    (b"1 OR 2", 1, 1),
+    (b"1 OR 2", 1, 1),  # R15
     (b"0 or 0", 0, 1),
     (b"1 # | 2", 1, 0),
     # blanks and comments
@@ -215,12 +215,12 @@ STRINGS = [
     (b"('ab')", STRING, 0, EXPRESSION, 2, 2),
     (b"((L'x'))", WIDE, 0, EXPRESSION, 4, 1),
     # empty ones have a place too
-    (b'""', STRING, 0, EXPRESSION, 1, 0),
+    (b'""', STRING, 0, EXPRESSION, 1, 0),  # R13
     (b"''", STRING, 0, EXPRESSION, 1, 0),
     (b'L""', WIDE, 0, EXPRESSION, 2, 0),
     (b"(L'')", WIDE, 0, EXPRESSION, 3, 0),
     (b"1 ? '' : 'a'", STRING, 1, EXPRESSION, 5, 0),
-    (b"0 ? 'a' : ''", STRING, 1, EXPRESSION, 11, 0),
+    (b"0 ? 'a' : ''", STRING, 1, EXPRESSION, 11, 0),  # R13
     # other bytes
     (b"\"it's\"", STRING, 0, EXPRESSION, 1, 4),
     (b"'say \"x\"'", STRING, 0, EXPRESSION, 1, 7),
@@ -229,8 +229,8 @@ STRINGS = [
     (b"'L'", STRING, 0, EXPRESSION, 1, 1),
     (b"'$(A)'", STRING, 0, EXPRESSION, 1, 4),
     # which of two: the first that looks the same is not always the one
-    (b'1 ? "ab" : "ab"', STRING, 1, EXPRESSION, 5, 2),
-    (b'0 ? "ab" : "ab"', STRING, 1, EXPRESSION, 12, 2),
+    (b'1 ? "ab" : "ab"', STRING, 1, EXPRESSION, 5, 2),  # R12
+    (b'0 ? "ab" : "ab"', STRING, 1, EXPRESSION, 12, 2),  # R12
     (b'1 ? L"ab" : L"ab"', WIDE, 1, EXPRESSION, 6, 2),
     (b'0 ? L"ab" : L"ab"', WIDE, 1, EXPRESSION, 14, 2),
     (b"1 ? 0 ? 'a' : 'b' : 'c'", STRING, 2, EXPRESSION, 15, 1),
@@ -240,11 +240,11 @@ STRINGS = [
     (b"1 ? ('a') : 'b'", STRING, 1, EXPRESSION, 6, 1),
     # in the table
     (b"$(S)", STRING, 0, IN_TABLE, start(b"S"), 3),
-    (b"$(E)", STRING, 0, IN_TABLE, start(b"E"), 0),
+    (b"$(E)", STRING, 0, IN_TABLE, start(b"E"), 0),  # R13
     (b"$(F)", WIDE, 0, IN_TABLE, start(b"F"), 0),
     (b"$(W)", WIDE, 0, IN_TABLE, start(b"W"), 4),
     (b"$(R)", STRING, 0, IN_TABLE, start(b"R"), 5),
-    (b"$(T)", STRING, 0, IN_TABLE, start(b"T"), 3),
+    (b"$(T)", STRING, 0, IN_TABLE, start(b"T"), 3),  # R34
     (b"$(Y)", STRING, 0, IN_TABLE, start(b"Y"), 56),
     (b"a.Str", STRING, 0, IN_TABLE, start(b"a.Str"), 3),
     (b"g.Wide", WIDE, 0, IN_TABLE, start(b"g.Wide"), 1),

@@ -1,0 +1,118 @@
+"""The readings in docs/DECISIONS.md: their inputs have the answers that their tables give and are among the vectors, the vectors cite every
+reading and no other number, and the index lists every entry."""
+import functools
+import os
+import pickle
+import re
+import subprocess
+import sys
+import tokenize
+
+import library
+from manual import cells, number
+from sessions import ROOT, read
+
+DECISIONS = "docs/DECISIONS.md"
+VECTORS = os.path.join(ROOT, "tests", "vectors")
+ENTRY = re.compile(r"^### (([RDC])\d+)\. (.*)$", re.M)
+ROOM = 16
+# Some modules of the vectors have the names of modules of this folder, so they are read in a process of their own.
+GATHER = """
+import pickle, sys
+import evaluation, selection, tokens
+inputs = [{each[0] for each in module.VECTORS} for module in (evaluation, tokens, selection)]
+pickle.dump([{each for each in kind if len(each) < 2000} for kind in inputs], sys.stdout.buffer)
+"""
+
+
+def entries():
+    """Number, title and text of every decision."""
+    text = read(DECISIONS)
+    starts = list(ENTRY.finditer(text))
+    for match, following in zip(starts, starts[1:] + [None]):
+        yield match[1], match[3], text[match.end(): following.start() if following else len(text)]
+
+
+def table(text):
+    """The heading of an entry's table and its rows; a reading has one table."""
+    head, body = re.search(r"^(\|.*\|)\n\|[-|]+\n((?:\|.*\n)+)", text + "\n", re.M).groups()
+    return cells(head)[0], [cells(line) for line in body.splitlines()]
+
+
+def expression(cell):
+    """The expression of a cell: code, a number of times, or blanks, one part after the other."""
+    made = b""
+    for part in cell.split(", then "):
+        count, code, blanks = re.fullmatch(r"(?:([\d,]+) times )?`([^`]*)`|([\d,]+) blanks", part).groups()
+        made += b" " * number(blanks) if blanks else code.encode() * number(count or "1")
+    return made
+
+
+def file(cell):
+    """The file of a cell: its lines with a CR or two after them, and an LF between two of them."""
+    lines = re.findall(r"`([^`]*)`((?: CR| LF)*)", cell)
+    return b"\n".join(text.encode() + b"\r" * ends.count("CR") + b"\n" * ends.count("LF") for text, ends in lines)
+
+
+def value_answer(text):
+    refusal, (kind, value, count, _, start, length) = library.evaluate(text, b"")
+    if refusal:
+        return "refused (%d)" % refusal
+    said = "string, %d bytes from byte %d" % (length, start) if kind else str(value)
+    return said + (", count %d" % count if count else "")
+
+
+def tokens_answer(text):
+    refusal, found = library.tokens(text)
+    said = "%d token%s" % (len(found), "" if len(found) == 1 else "s")
+    return "refused (%d), %s" % (refusal, said) if refusal else said
+
+
+def file_answer(text):
+    refusal, (line, lines, _), marks = library.select(text, b"", ROOM)
+    return "refused (%d) at line %d" % (refusal, line) if refusal else "marks " + " ".join(map(str, marks[:lines]))
+
+
+# Of each heading: how its inputs are made, and their answers. The inputs under the heading 'input' are described in words.
+KINDS = {"expression": (expression, value_answer), "tokens of": (expression, tokens_answer), "file": (file, file_answer)}
+
+
+@functools.cache
+def vectors():
+    """The inputs of the vectors, as the headings name them."""
+    done = subprocess.run([sys.executable, "-c", GATHER], env=dict(os.environ, PYTHONPATH=VECTORS), check=True, stdout=subprocess.PIPE)
+    return dict(zip(["expression", "tokens of", "file"], pickle.loads(done.stdout)))
+
+
+def is_vector(heading, text):
+    # The lines of a file in the vectors may end with an LF where the last one has none here. An expression may be there for its tokens alone.
+    found = vectors()
+    if heading == "file":
+        return bool({text, text + b"\n"} & found["file"])
+    return text in found["expression"] or text in found["tokens of"]
+
+
+def cited():
+    """The readings that the comments of the vectors cite."""
+    for name in sorted(os.listdir(VECTORS)):
+        if name.endswith(".py"):
+            with open(os.path.join(VECTORS, name), "rb") as source:
+                comments = [token.string for token in tokenize.tokenize(source.readline) if token.type == tokenize.COMMENT]
+            yield from re.findall(r"\bR\d+\b", " ".join(comments))
+
+
+def checks():
+    found = list(entries())
+    readings = {number: text for number, _, text in found if number.startswith("R")}
+    index = read(DECISIONS).split("\n## Index\n")[1].split("\n## ")[0]
+    yield "the index", re.findall(r"^- (.*)$", index, re.M), ["%s. %s" % (number, title) for number, title, _ in found]
+    for letter in "RDC":
+        numbers = [number for number, *_ in found if number.startswith(letter)]
+        yield "numbers of %s in order" % letter, numbers, [letter + str(1 + each) for each in range(len(numbers))]
+    yield "readings that no vector cites, and those that are cited and not there", readings.keys() ^ set(cited()), set()
+    for name, text in readings.items():
+        heading, rows = table(text)
+        for cell, wanted in rows if heading in KINDS else []:
+            make, answer = KINDS[heading]
+            yield "%s, %s" % (name, cell), answer(make(cell)), wanted
+            yield "%s, %s is a vector" % (name, cell), is_vector(heading, make(cell)), True
