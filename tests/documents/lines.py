@@ -45,7 +45,7 @@ WORDS = {
 }
 # A file whose second line is such a line.
 MARKS = {
-    "plain, and dropped: it stands in a branch that is not taken": "!if 0\nx\n!endif",
+    "plain, and dropped: it is in a branch that is not taken": "!if 0\nx\n!endif",
     "plain, and kept": "!if 1\nx\n!endif",
     "a directive that is not read": "!if 1\n!elseif @\n!endif",
     "a directive that is read, and the branch after it is not taken": "!if 1\n!else\n!endif",
