@@ -1,9 +1,9 @@
 /* Korzhinay: the calls that C, Rust and Python can make.
  *
- * Every call is total: it answers for any bytes, and a caller has nothing to check before. What C itself asks for remains: a pointer is
- * good for the length that comes with it or that its type names, and there are KORZHINAY_STACK bytes of stack. A pointer with a length of
- * 0 is neither read nor written and may be null. Lent arrays are written as each call says, and nowhere else; they must not overlap each
- * other or what the same call reads. The library keeps no state, so calls may run at the same time.
+ * Every call is total: it has an answer for any bytes, and a caller has nothing to check before. The rules of C remain: a pointer is valid
+ * for the length that comes with it or that its type names, and there are KORZHINAY_STACK bytes of stack. A pointer with a length of 0 is
+ * neither read nor written and may be null. Lent arrays are written as each call says, and nowhere else; they must not overlap each other
+ * or what the same call reads. The library keeps no state, so calls may run at the same time.
  *
  * Refusals have numbers from 1 to 26; korzhinay_meaning, at the end, has their meanings. docs/LANGUAGE.md describes the language, with an
  * example of each refusal.
@@ -18,10 +18,10 @@
 extern "C" {
 #endif
 
-/* No call needs more than this many bytes of stack, whatever it is given. They have to be left where the call is made: what a thread itself
- * takes of its stack, and signal handlers, come on top. This is measured and not proved, since it depends on the frames that the compiler
+/* No call needs more than this many bytes of stack, whatever its input. They have to be free where the call is made: what a thread takes of
+ * its stack for itself, and signal handlers, come on top. This is measured and not proved, since it depends on the frames that the compiler
  * makes: tests/stack/ makes every call on the deepest inputs that the limits allow, in threads that have just this much for it, and fails
- * if any is seen to use more than three quarters. */
+ * if any call uses more than three quarters. */
 #define KORZHINAY_STACK 32768
 
 /* Whether a table of settings is well formed: 0, or the refusal number 1.
@@ -34,23 +34,25 @@ extern "C" {
  *   72 to 127  the content, then zeros; a number is little endian, a string any bytes */
 uint8_t korzhinay_table(const uint8_t *table, size_t table_len);
 
-/* What stands under a name in a table: 0 and the answer, or the refusal number 1 where the table is malformed, and out stays. The name
- * comes without padding and, if it is a macro's, without `$(` and `)`; bytes that are no name, or over 64, stand in no table.
- *   out[0]  the kind, one of enum korzhinay_kind; 255 where there is no such name
- *   out[1]  the number; for a string, of either kind, where its bytes start in the table, also if it has none; 0 without such a name
- *   out[2]  the string's length; 0 for a number and without such a name */
+/* Looks up a name in a table: 0 and the answer, or the refusal number 1 if the table is malformed; out then stays as it was. The name is
+ * without padding and, if it is a macro's, without `$(` and `)`. No table has bytes that are no name, or more than 64 of them.
+ *   out[0]  the kind, one of enum korzhinay_kind; 255 if there is no such name
+ *   out[1]  the number; for a string, of either kind, the offset in the table at which its bytes start, also if it is empty; 0 if there is
+ *           no such name
+ *   out[2]  the string's length; 0 for a number and if there is no such name */
 uint8_t korzhinay_lookup(const uint8_t *table, size_t table_len, const uint8_t *name, size_t name_len, uint64_t out[3]);
 
-/* The tokens of an expression. Blanks (0x20, 0x09) are none, and `#` outside quotes ends the expression.
- *   out[0]  0, or the refusal number, of which the first that applies is given, but of 3, 4 and 5 the leftmost:
+/* The tokens of an expression. Blanks (0x20, 0x09) are no tokens, and `#` outside quotes ends the expression.
+ *   out[0]  0, or the refusal number: the first that applies, but of 3, 4 and 5 the leftmost:
  *            2  the expression is longer than 1,024 bytes
  *            3  no token can be read at some byte
  *            4  a number literal is above 2^64 - 1
- *            5  something follows token 200, be it a token or not; blanks and a comment may
+ *            5  something follows token 200, a token or not; blanks and a comment may follow
  *            6  at some token `(` outnumber `)` by more than 16
  *   out[1]  how many tokens were read: all of them with 0 and 6, none with 2, those before the fault with 3 and 4, 200 with 5
- * Of each token that was read: its code, one of enum korzhinay_code; where it starts, counted from 0; how many bytes it has, quotes and
- * `L`, or `$(` and `)`, included; and the value of a number literal or a truth word (0 for any other). Entries from out[1] on stay. */
+ * The arrays hold of each token that was read: its code, one of enum korzhinay_code; its start, counted from 0; its length in bytes, quotes
+ * and `L`, or `$(` and `)`, included; and the value of a number literal or a truth word (0 for any other). Entries from out[1] on stay as
+ * they were. */
 void korzhinay_tokens(const uint8_t *expression, size_t expression_len, uint64_t out[2], uint8_t codes[200],
                       uint16_t starts[200], uint16_t lens[200], uint64_t values[200]);
 
@@ -93,12 +95,12 @@ enum korzhinay_code {
 /* The value of an expression under a table: 0 and the answer, or the refusal number, and then all six numbers are 0.
  *   out[0]  the kind, one of enum korzhinay_kind
  *   out[1]  the number; 0 for a string, of either kind
- *   out[2]  how many operators were applied: every unary or binary one and every `?:` that was reached, those in skipped operands not,
- *           parentheses none; less than the number of tokens
- *   out[3]  in which of the caller's arrays a string's bytes stand, one of enum korzhinay_memory; 0 for a number
- *   out[4]  where they start in it; 0 for a number. An empty string starts between its quotes, or at byte 72 of its record
- *   out[5]  how many they are, quotes left off; 0 for a number
- * Refusals, of which the first that applies is given; of 3, 4 and 5 the leftmost, of 11 and 12 the one that evaluation meets first:
+ *   out[2]  how many operators were applied: every unary or binary one and every `?:` that was reached; those in skipped operands and
+ *           parentheses do not count. It is less than the number of tokens
+ *   out[3]  which of the caller's arrays holds the bytes of a string, one of enum korzhinay_memory; 0 for a number
+ *   out[4]  the offset at which they start in it; 0 for a number. An empty string starts between its quotes, or at byte 72 of its record
+ *   out[5]  how many bytes the string has, without quotes; 0 for a number
+ * Refusals; the first that applies is given, of 3, 4 and 5 the leftmost, of 11 and 12 the one that evaluation meets first:
  *    1  the table is malformed
  *    2  the expression is longer than 1,024 bytes
  *    3  no token can be read at some byte
@@ -127,12 +129,12 @@ enum korzhinay_memory {
     KORZHINAY_IN_TABLE = 1
 };
 
-/* The bytes of one PCD data field. With 0 the field stands at the front of buffer, *written is how many bytes it has, and the bytes
- * past it stay. With a refusal *written is 0 and every byte of buffer stays.
+/* The bytes of one PCD data field. With 0 the field is at the front of buffer, *written is how many bytes it has, and the bytes after it
+ * stay as they were. With a refusal *written is 0 and every byte of buffer stays as it was.
  * The field is a number in 1, 1, 2, 4 or 8 bytes, little endian, for BOOLEAN and UINT8 to UINT64; for VOID* it is a string and one
  * zero byte, or a wide string as two bytes for each of its own, that one and a zero, and two zero bytes.
- * No field has more than 2,044 bytes: a buffer of so many is enough.
- * Refusals: those of korzhinay_evaluate, 1 to 12; then, of which the first that applies is given:
+ * No field has more than 2,044 bytes, so a buffer of 2,044 bytes is always enough.
+ * Refusals: those of korzhinay_evaluate, 1 to 12; then the first of these that applies:
  *   23  datum is none of enum korzhinay_datum
  *   24  the value's kind does not suit the datum: a number for VOID*, or a string of either kind for any other
  *   25  the number is too large for the datum; for BOOLEAN it is above 1
@@ -151,32 +153,32 @@ enum korzhinay_datum {
 };
 
 /* Marks the lines of a description file: which are kept under a table of settings, which are dropped, and which are directives.
- * With 0 the first bytes of marks are the marks of the lines, one byte each, and those past the last line stay. With a refusal
- * every byte of marks is 255, however many were lent.
- *   out[0]  the line of the refusal, counted from 1; 0 without one, and for 1, 14, 15 and 16, which are of no line
+ * With 0 the first bytes of marks are the marks of the lines, one byte each, and those after the last line stay as they were. With a
+ * refusal every byte of marks is 255, however many were lent.
+ *   out[0]  the line of the refusal, counted from 1; 0 without one, and for 1, 14, 15 and 16, which have no line
  *   out[1]  how many lines the file has; 0 with a refusal
- *   out[2]  how many operators were applied in all expressions that were read, summed up; 0 with a refusal
+ *   out[2]  how many operators were applied, summed over all expressions that were read; 0 with a refusal
  * A line ends at LF, and a CR right before that LF is part of the end. What follows the last LF is a line if it has any byte. No file
- * that is accepted has more than 4,096 lines: marks of so many bytes are enough.
- * A line whose first byte, blanks left out, is `!` has as its word the letters after it, in which case matters. It is a directive if
- * the word is if, ifdef, ifndef, elseif, elif (the same as elseif), else or endif; include and error make it plain, as all other lines
- * are. !if and !elseif are true where the expression after them is 1, !ifdef where the table has the macro's name, whatever its value,
- * !ifndef where it has not. Of a group that stands in no branch, or in one that is taken, the first branch that is true is taken, and
- * an !else's if none is; of any other group no branch is taken.
+ * that is accepted has more than 4,096 lines, so 4,096 marks are always enough.
+ * A line whose first byte, blanks left out, is `!` has as its word the letters after it; case matters. It is a directive if the word is
+ * if, ifdef, ifndef, elseif, elif (the same as elseif), else or endif. With the words include and error it is plain, as all other lines
+ * are. !if and !elseif are true if the expression after them is 1, !ifdef if the table has the macro's name, whatever its value, !ifndef
+ * if it does not have it. If a group is in no branch, or in a branch that is taken, its first branch that is true is taken, or that of
+ * its !else if none is true; in any other group no branch is taken.
  * Refusals, of which the first that applies is given; before all lines:
  *    1  the table is malformed
  *   14  the file is longer than 65,536 bytes
  *   15  the file has more than 4,096 lines
  *   16  marks has fewer bytes than the file has lines
  * then, of the first line that has any:
- *   17  the line, of whatever sort, is longer than 1,024 bytes, its end left off
+ *   17  the line, plain or not, is longer than 1,024 bytes without its end
  *   18  the letters after `!` are none of the nine words above, or there are none; in a dropped branch too
  *   19  !elseif, !elif, !else or !endif without an open !if, !ifdef or !ifndef; or !elseif, !elif or !else after its group's !else;
  *       in a dropped branch too
  *   20  a 17th !if, !ifdef or !ifndef while 16 are open, in a dropped branch too
  *   22  what follows a word that is read is not what it takes: no blank directly after !if, !ifdef, !ifndef, !elseif or !elif;
- *       something else than one macro, as NAME or $(NAME), after !ifdef or !ifndef; anything at all after !else or !endif; blanks
- *       and a comment apart
+ *       anything except one macro, as NAME or $(NAME), after !ifdef or !ifndef; anything at all after !else or !endif; blanks and a
+ *       comment are allowed
  *   3 to 12  an expression that is read, as korzhinay_evaluate refuses it (a line is too short for 2)
  *   13  the value of an expression that is read is neither the number 0 nor the number 1
  * and after the last line:
@@ -184,11 +186,11 @@ enum korzhinay_datum {
 uint8_t korzhinay_select(uint8_t *marks, size_t marks_len, const uint8_t *file, size_t file_len, const uint8_t *table,
                          size_t table_len, uint64_t out[3]);
 
-/* The marks of lines. A directive is read where the outcome depends on it: where the branch around its group is taken or there is
- * none, and, for !elseif and !elif, where besides no earlier branch of its group was taken. */
+/* The marks of lines. A directive is read if the outcome depends on it: if the branch around its group is taken or there is none and, for
+ * !elseif and !elif, if no earlier branch of its group was taken. */
 enum korzhinay_mark {
     KORZHINAY_MARK_DROPPED = 0,   /* a plain line in a branch that is not taken */
-    KORZHINAY_MARK_KEPT = 1,      /* a plain line that goes in */
+    KORZHINAY_MARK_KEPT = 1,      /* a plain line that is kept */
     KORZHINAY_MARK_UNREAD = 2,    /* a directive of which only the word was looked at */
     KORZHINAY_MARK_NOT_TAKEN = 3, /* a directive that was read; the branch after it is not taken */
     KORZHINAY_MARK_TAKEN = 4,     /* a directive that was read; the branch after it is taken */
