@@ -1,6 +1,7 @@
-"""The readings in docs/DECISIONS.md: their inputs have the answers that their tables give and are among the vectors, the vectors cite every
-reading and no other number, and the index lists every entry."""
+"""The readings in docs/DECISIONS.md: their inputs have the answers that their tables give and are among the vectors, and the vectors cite
+every reading and no other number. Of all decisions: the index lists them, and the files and must-fail edits that they name exist."""
 import functools
+import glob
 import os
 import pickle
 import re
@@ -33,9 +34,12 @@ def entries():
         yield match[1], match[3], text[match.end(): following.start() if following else len(text)]
 
 
-def table(text):
-    """The heading of an entry's table and its rows; a reading has one table."""
-    head, body = re.search(r"^(\|.*\|)\n\|[-|]+\n((?:\|.*\n)+)", text + "\n", re.M).groups()
+def table(reading, text):
+    """The heading of a reading's table and its rows. It ends the test if there is not just one table: another would not be checked."""
+    found = re.findall(r"^(\|.*\|)\n\|[-|]+\n((?:\|.*\n)+)", text + "\n", re.M)
+    if len(found) != 1:
+        raise SystemExit("%s: %s has %d tables" % (DECISIONS, reading, len(found)))
+    (head, body), = found
     return cells(head)[0], [cells(line) for line in body.splitlines()]
 
 
@@ -102,17 +106,22 @@ def cited():
 
 
 def checks():
-    found = list(entries())
-    readings = {number: text for number, _, text in found if number.startswith("R")}
-    index = read(DECISIONS).split("\n## Index\n")[1].split("\n## ")[0]
+    text, found = read(DECISIONS), list(entries())
+    readings = {number: entry for number, _, entry in found if number.startswith("R")}
+    index = text.split("\n## Index\n")[1].split("\n## ")[0]
     yield "the index", re.findall(r"^- (.*)$", index, re.M), ["%s. %s" % (number, title) for number, title, _ in found]
     for letter in "RDC":
         numbers = [number for number, *_ in found if number.startswith(letter)]
         yield "numbers of %s in order" % letter, numbers, [letter + str(1 + each) for each in range(len(numbers))]
+    paths = set(re.findall(r"`((?:bench|cli|crates|docs|include|tests)/[^`\s]*)`", text))
+    yield "files that are named and not there", sorted(path for path in paths if not os.path.exists(os.path.join(ROOT, path))), []
+    named = set(re.findall(r"`([a-z0-9]+_[a-z0-9]+_[a-z0-9_]+)`", text))
+    edits = {os.path.basename(path)[: -len(".edit")] for path in glob.glob(os.path.join(ROOT, "crates/*/must-fail/*.edit"))}
+    yield "edits that are named and not there", sorted(named - edits), []
     yield "readings that no vector cites, and those that are cited and not there", readings.keys() ^ set(cited()), set()
-    for name, text in readings.items():
-        heading, rows = table(text)
+    for reading, entry in readings.items():
+        heading, rows = table(reading, entry)
         for cell, wanted in rows if heading in KINDS else []:
             make, answer = KINDS[heading]
-            yield "%s, %s" % (name, cell), answer(make(cell)), wanted
-            yield "%s, %s is a vector" % (name, cell), is_vector(heading, make(cell)), True
+            yield "%s, %s" % (reading, cell), answer(make(cell)), wanted
+            yield "%s, %s is a vector" % (reading, cell), is_vector(heading, make(cell)), True
