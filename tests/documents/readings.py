@@ -15,7 +15,7 @@ from sessions import ROOT, read
 
 DECISIONS = "docs/DECISIONS.md"
 VECTORS = os.path.join(ROOT, "tests", "vectors")
-ENTRY = re.compile(r"^### (([RDC])\d+)\. (.*)$", re.M)
+ENTRY = re.compile(r"^### ([RDC]\d+)\. (.*)$", re.M)
 ROOM = 16
 # Some modules of the vectors have the names of modules of this folder, so they are read in a process of their own.
 GATHER = """
@@ -31,7 +31,7 @@ def entries():
     text = read(DECISIONS)
     starts = list(ENTRY.finditer(text))
     for match, following in zip(starts, starts[1:] + [None]):
-        yield match[1], match[3], text[match.end(): following.start() if following else len(text)]
+        yield match[1], match[2], text[match.end(): following.start() if following else len(text)]
 
 
 def table(reading, text):
@@ -55,6 +55,8 @@ def expression(cell):
 def file(cell):
     """The file of a cell: its lines with a CR or two after them, and an LF between two of them."""
     lines = re.findall(r"`([^`]*)`((?: CR| LF)*)", cell)
+    if ", ".join("`%s`%s" % line for line in lines) != cell:
+        raise SystemExit("%s: the test cannot make the file %s" % (DECISIONS, cell))
     return b"\n".join(text.encode() + b"\r" * ends.count("CR") + b"\n" * ends.count("LF") for text, ends in lines)
 
 
@@ -77,7 +79,8 @@ def file_answer(text):
     return "refused (%d) at line %d" % (refusal, line) if refusal else "marks " + " ".join(map(str, marks[:lines]))
 
 
-# Of each heading: how its inputs are made, and their answers. The inputs under the heading 'input' are described in words.
+# Of each heading: how its inputs are made, and their answers. The inputs under another heading are described in words.
+IN_WORDS = "input"
 KINDS = {"expression": (expression, value_answer), "tokens of": (expression, tokens_answer), "file": (file, file_answer)}
 
 
@@ -89,7 +92,7 @@ def vectors():
 
 
 def is_vector(heading, text):
-    # The lines of a file in the vectors may end with an LF where the last one has none here. An expression may be there for its tokens alone.
+    # A file may have an LF at its end in the vectors and none here, and an expression may be there for its tokens alone.
     found = vectors()
     if heading == "file":
         return bool({text, text + b"\n"} & found["file"])
@@ -121,7 +124,7 @@ def checks():
     yield "readings that no vector cites, and those that are cited and not there", readings.keys() ^ set(cited()), set()
     for reading, entry in readings.items():
         heading, rows = table(reading, entry)
-        for cell, wanted in rows if heading in KINDS else []:
+        for cell, wanted in rows if heading != IN_WORDS else []:
             make, answer = KINDS[heading]
             yield "%s, %s" % (reading, cell), answer(make(cell)), wanted
             yield "%s, %s is a vector" % (reading, cell), is_vector(heading, make(cell)), True
