@@ -24,7 +24,7 @@ CLAUSE = re.compile(r"^    (requires|ensures) \{ (?:λ r\. )?⌜ (.*) ⌝ \}$", 
 
 
 def paths(pattern):
-    return sorted(os.path.relpath(path, ROOT) for path in glob.glob(os.path.join(ROOT, pattern)))
+    return sorted(os.path.relpath(path, ROOT) for path in glob.glob(os.path.join(ROOT, pattern), recursive=True))
 
 
 def path_of(module):
@@ -91,16 +91,20 @@ def reach(files, roots, devices):
     return reached
 
 
+def assuming():
+    """How many functions assume something, by a search for the word alone."""
+    return sum(len(re.findall(r"^\s*requires\b", read(path), re.M)) for path in paths("crates/*/src/**/*.rt"))
+
+
 def functions():
     """All functions, with the clauses of their contracts."""
-    for path in paths("crates/*/src/*.rt"):
+    for path in paths("crates/*/src/**/*.rt"):
         text = read(path)
-        crate, module = path.split("/")[1], os.path.basename(path)[: -len(".rt")]
+        crate, modules = path.split("/")[1], path[: -len(".rt")].split("/")[3:]
         for public, exported, name, rest in HEADER.findall(text):
             clauses = CLAUSE.findall(rest)
-            where = [crate] if module == "lib" else [crate, module]
             yield Function(
-                "::".join(where + [name]),
+                "::".join([crate] + [module for module in modules if module != "lib"] + [name]),
                 path,
                 bool(public),
                 bool(exported),

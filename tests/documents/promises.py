@@ -11,7 +11,7 @@ import os
 import re
 import sys
 
-from definitions import functions, load, paths, reach, used, words_of
+from definitions import assuming, functions, load, paths, reach, used, words_of
 from sessions import ROOT, read
 
 PROMISES = "docs/PROMISES.md"
@@ -250,6 +250,8 @@ class Page:
         known = set(self.theorems) | set(self.exported) | set(self.functions)
         yield "names in the table that are neither theorem nor function", sorted(set(names) - known)
         yield "exported calls that assume something", sorted(name for name, function in self.exported.items() if function.requires)
+        known = sum(len(function.requires) for function in self.functions.values())
+        yield "assumptions that the search for functions missed", [] if known == assuming() else ["%d of %d found" % (known, assuming())]
         lists = [crate for _, key, argument, _, _ in MARKED.findall(self.text) if key == "wrong programs" for crate in argument.split()]
         yield "crates whose edits are in no list", sorted(set(self.edits.crates) - set(lists))
         yield "crates of a list that have no edits, or are in two", sorted({c for c in lists if c not in self.edits.crates or lists.count(c) > 1})
