@@ -47,6 +47,11 @@ def imports_of(text):
     return imports
 
 
+def unread_imports(text):
+    """Imports that are not in one line, or that name nothing."""
+    return [line for line in text.split("\n") if re.match(r"(pub |ghost )?use ", line) and not IMPORT.match(line)]
+
+
 def load_file(path):
     text = read(path)
     definitions, names = [], {}

@@ -11,7 +11,7 @@ import os
 import re
 import sys
 
-from definitions import assuming, functions, load, paths, reach, used, words_of
+from definitions import assuming, functions, load, paths, reach, unread_imports, used, words_of
 from sessions import ROOT, read
 
 PROMISES = "docs/PROMISES.md"
@@ -115,6 +115,8 @@ class Page:
         self.text = text
         self.edits = Edits()
         self.files = load()
+        if MAIN not in self.files:
+            raise SystemExit("the page of theorems, %s, is not there" % MAIN)
         self.functions = {function.name: function for function in functions()}
         self.exported = {name.split("::")[-1]: function for name, function in self.functions.items() if function.exported}
         self.theorems = {d.names[0]: d for d in self.files[MAIN].definitions}
@@ -211,13 +213,10 @@ class Page:
         constants = self.constants()
         reading = [path for path in self.listed if path not in constants]
         imports = sum(len(re.findall(r"^use ", self.files[path].text, re.M)) for path in reading if path in self.files)
-        return "Together %d lines in %d files, %d of them imports; besides these %d lines of constants and %d lines of declared types.\n" % (
-            sum(map(self.lines_of, reading)),
-            len(reading),
-            imports,
-            sum(map(self.lines_of, constants)),
-            sum(self.types.lines.values()),
-        )
+        counted = sum(map(self.lines_of, reading)), len(reading), imports
+        besides = sum(map(self.lines_of, constants)), sum(self.types.lines.values())
+        together = "Together %d lines in %d files, %d of them imports; " % counted
+        return together + "besides these %d lines of constants and %d lines of declared types.\n" % besides
 
     def made(self):
         """The page as it has to be."""
@@ -250,11 +249,13 @@ class Page:
         known = set(self.theorems) | set(self.exported) | set(self.functions)
         yield "names in the table that are neither theorem nor function", sorted(set(names) - known)
         yield "exported calls that assume something", sorted(name for name, function in self.exported.items() if function.requires)
+        yield "imports that the test cannot read", [line for file in self.files.values() for line in unread_imports(file.text)]
         known = sum(len(function.requires) for function in self.functions.values())
         yield "assumptions that the search for functions missed", [] if known == assuming() else ["%d of %d found" % (known, assuming())]
         lists = [crate for _, key, argument, _, _ in MARKED.findall(self.text) if key == "wrong programs" for crate in argument.split()]
         yield "crates whose edits are in no list", sorted(set(self.edits.crates) - set(lists))
-        yield "crates of a list that have no edits, or are in two", sorted({c for c in lists if c not in self.edits.crates or lists.count(c) > 1})
+        yield "crates of a list that have no edits", sorted(set(lists) - set(self.edits.crates))
+        yield "crates in two lists", sorted({crate for crate in lists if lists.count(crate) > 1})
         yield "edits whose first line does not say what they rule out", self.edits.unsaid()
         yield "edits of texts that are not there", self.edits.misplaced()
         reached = {path for path, _ in self.reached}
