@@ -2,7 +2,6 @@
 
 use std::hint::black_box;
 
-use crate::c;
 use crate::expressions;
 use crate::settings;
 use crate::timing::{compare, compare_in, ROUNDS};
@@ -75,17 +74,8 @@ fn time_small(of: &str, rounds: usize, small: &[String], table: &[u8]) {
 }
 
 fn answer(text: &str, table: &[u8]) -> (u8, [u64; 6]) {
-    let mut out = [0u64; 6];
-    // SAFETY: the call reads the text and the table and writes six numbers.
-    let refusal = unsafe {
-        c::korzhinay_evaluate(
-            text.as_ptr().cast(),
-            text.len(),
-            table.as_ptr().cast(),
-            table.len(),
-            out.as_mut_ptr(),
-        )
-    };
+    let mut out = [0; 6];
+    let refusal = bindings::evaluate(text.as_bytes(), table, &mut out);
     (refusal, out)
 }
 

@@ -1,10 +1,8 @@
 //! Times the proved library beside the independent Rust implementation, and the command whose path is given beside other tools, on
 //! the same inputs; release builds. With `--instructions FOLDER` it counts the library's instructions instead.
 
-// the command's declarations; not every call is timed
-#[allow(dead_code)]
-#[path = "../../cli/src/c.rs"]
-mod c;
+#![forbid(unsafe_code)]
+
 mod evaluation;
 mod expressions;
 mod files;

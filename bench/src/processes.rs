@@ -6,6 +6,8 @@ use std::io::ErrorKind;
 use std::path::Path;
 use std::process::{Command, Stdio};
 
+use bindings::limit::RECORD_BYTES;
+
 use crate::files;
 use crate::folder::Folder;
 use crate::settings;
@@ -31,7 +33,10 @@ struct Tool {
 pub fn time(command: &Path) {
     let folder = Folder::new();
     folder.write("settings.txt", settings::text(files::SET).as_bytes());
-    folder.write("settings.bin", &settings::table()[..files::SET * 128]);
+    folder.write(
+        "settings.bin",
+        &settings::table()[..files::SET * RECORD_BYTES],
+    );
     let definitions = settings::in_c(files::SET, files::NAMED);
     folder.write("settings.h", definitions.as_bytes());
     let (installed, missing): (Vec<Tool>, Vec<Tool>) =

@@ -1,5 +1,7 @@
 //! The settings that are timed: 500 numbers, as a table, and some of them as texts that commands read.
 
+use bindings::limit::RECORD_BYTES;
+
 pub fn names() -> Vec<String> {
     (0..500).map(name).collect()
 }
@@ -16,8 +18,8 @@ pub fn table() -> Vec<u8> {
         .collect()
 }
 
-pub fn record(name: &str, value: u64) -> [u8; 128] {
-    let mut record = [0; 128];
+pub fn record(name: &str, value: u64) -> [u8; RECORD_BYTES] {
+    let mut record = [0; RECORD_BYTES];
     record[..name.len()].copy_from_slice(name.as_bytes());
     record[65] = 8;
     record[72..80].copy_from_slice(&value.to_le_bytes());

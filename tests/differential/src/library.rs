@@ -1,54 +1,12 @@
 //! The calls of the library under test.
 
+use bindings::raw::{
+    korzhinay_evaluate, korzhinay_field, korzhinay_lookup, korzhinay_select, korzhinay_table,
+    korzhinay_tokens,
+};
 use oracle::tokens::MAX_TOKENS;
 
 use crate::lent::{Buffer, Input};
-
-extern "C" {
-    fn korzhinay_table(table: *const u8, len: usize) -> u8;
-    fn korzhinay_lookup(
-        table: *const u8,
-        table_len: usize,
-        name: *const u8,
-        name_len: usize,
-        out: *mut u64,
-    ) -> u8;
-    fn korzhinay_tokens(
-        expr: *const u8,
-        len: usize,
-        out: *mut u64,
-        codes: *mut u8,
-        starts: *mut u16,
-        lens: *mut u16,
-        values: *mut u64,
-    );
-    fn korzhinay_evaluate(
-        expr: *const u8,
-        len: usize,
-        table: *const u8,
-        table_len: usize,
-        out: *mut u64,
-    ) -> u8;
-    fn korzhinay_field(
-        buffer: *mut u8,
-        buffer_len: usize,
-        expr: *const u8,
-        len: usize,
-        table: *const u8,
-        table_len: usize,
-        datum: u8,
-        written: *mut u64,
-    ) -> u8;
-    fn korzhinay_select(
-        marks: *mut u8,
-        marks_len: usize,
-        file: *const u8,
-        file_len: usize,
-        table: *const u8,
-        table_len: usize,
-        out: *mut u64,
-    ) -> u8;
-}
 
 /// 0 for a well formed table, else its refusal number.
 pub fn table(table: Input) -> u8 {
