@@ -2,7 +2,7 @@
 //!
 //! The functions at the root take slices and references. `raw` has the C functions themselves, for a caller that needs pointers.
 
-#![deny(clippy::undocumented_unsafe_blocks)]
+#![deny(clippy::undocumented_unsafe_blocks, unsafe_op_in_unsafe_fn)]
 
 mod calls;
 pub mod datum;

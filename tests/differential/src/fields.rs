@@ -115,8 +115,8 @@ struct Ask<'a> {
 
 impl Ask<'_> {
     fn compare(&self, pattern: u64, tally: &mut Tally) -> Result<(), Mismatch> {
-        let mut shown = Shown::new(self.expr, pattern);
-        let mut shown_table = Shown::new(self.table, pattern >> 8);
+        let shown = Shown::new(self.expr, pattern);
+        let shown_table = Shown::new(self.table, pattern >> 8);
         self.compare_at(shown.input(), shown_table.input(), pattern, tally)?;
         let checked = shown.check("expression").and(shown_table.check("table"));
         checked.map_err(|what| self.broken_memory(what))
@@ -139,9 +139,10 @@ impl Ask<'_> {
             buffer,
         };
         tally.add(expected.refusal);
-        crash::input(self.expr);
-        let given = library::field(expr_at, table_at, self.datum, self.room, pattern)
-            .map_err(|what| self.broken_memory(what))?;
+        let given = crash::watched(self.expr, || {
+            library::field(expr_at, table_at, self.datum, self.room, pattern)
+        });
+        let given = given.map_err(|what| self.broken_memory(what))?;
         if given == expected {
             return Ok(());
         }

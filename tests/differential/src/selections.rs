@@ -76,7 +76,7 @@ impl Subject for Selections {
 
 /// Files, tables and marks of no bytes, at any address.
 fn without_bytes(tally: &mut Tally) -> Result<(), Mismatch> {
-    let mut shown = Shown::new(b"x", 1);
+    let shown = Shown::new(b"x", 1);
     let one_line = shown.input();
     for nowhere in Input::empty_ones() {
         for empty in Input::empty_ones() {
@@ -86,7 +86,7 @@ fn without_bytes(tally: &mut Tally) -> Result<(), Mismatch> {
                     table: b"",
                     room: 0,
                 };
-                let given = library::select_without_marks(nowhere, at, empty, 3);
+                let given = library::select_without_marks(nowhere.start(), at, empty, 3);
                 ask.check(given, 3, tally)?;
                 let wide = Ask { room: 2, ..ask };
                 wide.check(library::select(at, empty, 2, 4), 4, tally)?;
@@ -148,10 +148,11 @@ impl Ask<'_> {
 
     /// Runs the library, and sees that it only reads the file and the table.
     pub fn call(&self, pattern: u64) -> Result<Selected, String> {
-        let mut shown = Shown::new(self.file, pattern);
-        let mut shown_table = Shown::new(self.table, pattern >> 8);
-        crash::input(self.file);
-        let given = library::select(shown.input(), shown_table.input(), self.room, pattern)?;
+        let shown = Shown::new(self.file, pattern);
+        let shown_table = Shown::new(self.table, pattern >> 8);
+        let given = crash::watched(self.file, || {
+            library::select(shown.input(), shown_table.input(), self.room, pattern)
+        })?;
         shown.check("file").and(shown_table.check("table"))?;
         Ok(given)
     }
