@@ -1,5 +1,5 @@
 //! Times the selection of the lines of a file, and of one half as long: the cost has to be in proportion. Each side has
-//! marks of its own, which every call writes over; they are not cleared between calls.
+//! marks of its own, which every call overwrites; they are not cleared between calls.
 
 use std::hint::black_box;
 use std::time::Duration;
@@ -24,17 +24,19 @@ pub fn time() {
     );
 }
 
-/// The selection of the file, and of the one half as long, once.
+/// The selection of the larger file, once.
 pub fn once() {
     let [file, _] = files::both();
     select(&file);
 }
 
+/// The selection of the smaller file, once.
 pub fn once_half() {
     let [_, file] = files::both();
     select(&file);
 }
 
+/// The selection of the file whose first branches are all taken, once.
 pub fn once_calm() {
     select(&files::calm());
 }
@@ -70,7 +72,7 @@ fn proved(file: &[u8], table: &[u8], marks: &mut [u8]) -> (u8, [u64; 3]) {
     (refusal, out)
 }
 
-/// What is timed is accepted, with the same marks and count on both sides.
+/// Checks that the file is accepted, with the same marks and count on both sides.
 fn check(file: &[u8], table: &[u8], marks: &mut [u8], others: &mut [u8]) {
     let (refusal, [_, lines, count]) = proved(file, table, marks);
     let other = oracle::select(file, table, others);

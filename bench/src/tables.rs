@@ -18,7 +18,7 @@ pub fn time() {
             black_box(bindings::table(&table));
         },
         || {
-            black_box(oracle::well_formed(&table));
+            black_box(oracle::is_well_formed(&table));
         },
     );
     let mut found = [0; 3];
@@ -33,7 +33,7 @@ pub fn time() {
         },
         || {
             for name in &names {
-                black_box(oracle::well_formed(&table));
+                black_box(oracle::is_well_formed(&table));
                 black_box(oracle::lookup(&table, name.as_bytes()));
             }
         },
@@ -53,9 +53,9 @@ pub fn once_last() {
     assert_eq!(refusal, 0);
 }
 
-/// What is timed is a good table on both sides, in which both find the same number under each name.
+/// Checks that the table is well formed on both sides, and that both find the same number under each name.
 fn check(names: &[String], table: &[u8]) {
-    assert!(bindings::table(table) == 0 && oracle::well_formed(table));
+    assert!(bindings::table(table) == 0 && oracle::is_well_formed(table));
     for name in names {
         let mut found = [0; 3];
         let refusal = lookup(table, name.as_bytes(), &mut found);

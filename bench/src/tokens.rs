@@ -83,7 +83,7 @@ impl Lent {
         black_box(self);
     }
 
-    /// What is timed has the same tokens on both sides, and no refusal.
+    /// Checks that both sides read the same tokens, without a refusal.
     fn check(&mut self, text: &str) {
         self.scan(text);
         let [refusal, count] = self.out;

@@ -2,7 +2,7 @@
 
 /// A plain line in a branch that is not taken.
 pub const DROPPED: u8 = 0;
-/// A plain line that goes in.
+/// A plain line that is kept.
 pub const KEPT: u8 = 1;
 /// A directive of which only the word was looked at.
 pub const UNREAD: u8 = 2;

@@ -41,7 +41,7 @@ pub fn run(subcommand: Option<&Subcommand>, words: &[&[u8]]) -> Result<(), Error
 }
 
 fn run_subcommand(subcommand: &Subcommand, words: &[&[u8]]) -> Result<(), Error> {
-    // --help works whatever else is wrong.
+    // --help works even if something else is wrong.
     let mut options = words.iter().take_while(|word| **word != b"--");
     if options.any(|word| matches!(*word, b"--help" | b"-h")) {
         return print(help::of(subcommand).as_bytes());

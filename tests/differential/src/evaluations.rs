@@ -152,7 +152,7 @@ fn answer(expr: &[u8], table: &[u8]) -> (u8, [u64; 6]) {
 }
 
 /// Which memory a part lies in, and where. An empty part has its place too:
-/// it is never at the very end of its memory, so this tells it.
+/// it is never at the very end of its memory, so this finds it.
 fn place(expr: &[u8], table: &[u8], part: &[u8]) -> (u64, u64) {
     let range = |bytes: &[u8]| -> Range<usize> {
         let range = bytes.as_ptr_range();

@@ -1,4 +1,4 @@
-//! Tables: whether they are well formed, and what stands under a name.
+//! Tables: whether they are well formed, and the setting of a name.
 
 use oracle::table::RECORD;
 use oracle::Setting;
@@ -46,12 +46,12 @@ impl Subject for Tables {
 
     fn case(&self, rng: &mut Prng, tally: &mut Tally) -> Result<(), Mismatch> {
         let table = gen::valid(rng);
-        if !oracle::well_formed(&table) {
+        if !oracle::is_well_formed(&table) {
             return Err(Mismatch {
-                what: "the oracle refuses a table that was made to be good".to_string(),
+                what: "the oracle refuses a table that was made well formed".to_string(),
                 input: write_table(&table),
                 oracle: "1".to_string(),
-                library: "not asked".to_string(),
+                library: "not called".to_string(),
             });
         }
         let names = gen::lookups(rng, &table);
@@ -89,7 +89,7 @@ fn compare(
         .map_err(|what| case.broken_memory(what, b""))
 }
 
-/// A table that both have said to be good, or both to be malformed.
+/// A table that both find well formed, or both malformed.
 struct Case<'a> {
     table: &'a [u8],
     at: Input<'a>,
@@ -99,7 +99,7 @@ struct Case<'a> {
 impl<'a> Case<'a> {
     /// Compares the check of `table`, which the library finds at `at`.
     fn check(table: &'a [u8], at: Input<'a>, tally: &mut Tally) -> Result<Case<'a>, Mismatch> {
-        let well_formed = oracle::well_formed(table);
+        let well_formed = oracle::is_well_formed(table);
         let expected = u8::from(!well_formed);
         tally.add(expected);
         let given = crash::watched(table, || library::table(at));

@@ -16,5 +16,5 @@ pub mod tree;
 pub use expression::{evaluate, Answer, Kind, Outcome, Value};
 pub use field::field;
 pub use selection::select;
-pub use table::{lookup, well_formed, Setting};
+pub use table::{is_well_formed, lookup, Setting};
 pub use tokens::{scan, Scan, Token};
