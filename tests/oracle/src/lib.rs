@@ -3,6 +3,8 @@
 //! It exists to be compared with the product and to be timed against it, so
 //! it is written from the papers alone and prefers the obvious form.
 
+#![forbid(unsafe_code)]
+
 pub mod bytes;
 pub mod expression;
 pub mod field;
