@@ -86,10 +86,13 @@ fn without_bytes(tally: &mut Tally) -> Result<(), Mismatch> {
                     table: b"",
                     room: 0,
                 };
-                let given = library::select_without_marks(nowhere.start(), at, empty, 3);
+                let given = crash::watched(file, || {
+                    library::select_without_marks(nowhere.start(), at, empty, 3)
+                });
                 case.check(given, 3, tally)?;
                 let wide = Case { room: 2, ..case };
-                wide.check(library::select(at, empty, 2, 4), 4, tally)?;
+                let given = crash::watched(file, || library::select(at, empty, 2, 4));
+                wide.check(given, 4, tally)?;
             }
         }
     }
