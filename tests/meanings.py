@@ -2,7 +2,7 @@
 import os
 import re
 
-SOURCE = os.path.join(os.path.dirname(os.path.abspath(__file__)), "..", "cli", "src", "words.rs")
+SOURCE = os.path.join(os.path.dirname(os.path.abspath(__file__)), "..", "cli", "src", "terminal", "meanings.rs")
 
 
 def meanings():

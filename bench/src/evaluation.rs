@@ -2,15 +2,14 @@
 
 use std::hint::black_box;
 
-use crate::c;
 use crate::expressions;
 use crate::settings;
 use crate::timing::{compare, compare_in, ROUNDS};
 
-/// Calls of one expression in a round, so that the clock's own time does not count.
+/// Calls of one expression in a round, so that reading the clock hardly counts.
 const CALLS: usize = 1_000;
 
-/// Rounds of what takes long.
+/// Rounds of work that takes long.
 const LONG_ROUNDS: usize = 5;
 
 const EQUAL: &str = "$(X) == TRUE";
@@ -43,15 +42,17 @@ pub fn time() {
     );
 }
 
-/// The first two, once each, and the first over no settings.
+/// The first of them over an empty table, once.
 pub fn once_unset() {
     proved(EQUAL, &[]);
 }
 
+/// The first of them, once.
 pub fn once_equal() {
     proved(EQUAL, &settings::record("X", 1));
 }
 
+/// The second of them, once.
 pub fn once_ten() {
     proved(TEN, &settings::record("X", 1));
 }
@@ -75,17 +76,8 @@ fn time_small(of: &str, rounds: usize, small: &[String], table: &[u8]) {
 }
 
 fn answer(text: &str, table: &[u8]) -> (u8, [u64; 6]) {
-    let mut out = [0u64; 6];
-    // SAFETY: the call reads the text and the table and writes six numbers.
-    let refusal = unsafe {
-        c::korzhinay_evaluate(
-            text.as_ptr().cast(),
-            text.len(),
-            table.as_ptr().cast(),
-            table.len(),
-            out.as_mut_ptr(),
-        )
-    };
+    let mut out = [0; 6];
+    let refusal = bindings::evaluate(text.as_bytes(), table, &mut out);
     (refusal, out)
 }
 
@@ -97,7 +89,7 @@ fn oracle(text: &str, table: &[u8]) {
     let _ = black_box(oracle::evaluate(text.as_bytes(), table));
 }
 
-/// What is timed has a value, with the same count on both sides.
+/// Checks that an expression has a value, with the same count on both sides.
 fn check(text: &str, table: &[u8]) {
     let (refusal, [.., count, _, _, _]) = answer(text, table);
     let other = oracle::evaluate(text.as_bytes(), table).map(|outcome| outcome.count);

@@ -1,6 +1,6 @@
-//! The small expressions that are timed.
+//! Small expressions.
 
-/// 10,000 expressions of four forms in turns: two that tokens and values are both timed on, and two others.
+/// 10,000 expressions of four forms in turns: two that both the tokens and the values use, and two others.
 pub fn small(others: [fn(usize) -> String; 2]) -> Vec<String> {
     (0..10_000)
         .map(|i| match i % 4 {

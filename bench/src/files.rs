@@ -1,7 +1,7 @@
 //! The description file that is timed, and the same lines in C's syntax for tools that read that: groups of 16 lines, 4 of them
-//! directives, with plain lines as long as its size asks for.
+//! directives, with plain lines that fill it to its size.
 
-/// Lines of a group, and those of them that are directives, each with as many plain lines after it.
+/// Lines of a group, and how many of them are directives; after each come equally many plain lines.
 const GROUP: usize = 16;
 const DIRECTIVES: usize = 4;
 const PLAIN: usize = GROUP - DIRECTIVES;
@@ -10,16 +10,16 @@ const PLAIN: usize = GROUP - DIRECTIVES;
 const LINES: usize = 4_000;
 const BYTES: usize = 65_536;
 
-/// The first so many names are set, and none past the other number is asked for.
+/// How many names are set, and how many are used: some of these are not set.
 pub const SET: usize = 50;
 pub const NAMED: usize = 60;
 
-/// The file, and one half as long.
+/// The larger file and the smaller one.
 pub fn both() -> [String; 2] {
     [1, 2].map(|part| file(LINES / part, BYTES / part))
 }
 
-/// What a file is like.
+/// A file in a few words.
 pub fn described(file: &str) -> String {
     let directives = file.lines().filter(|line| line.starts_with('!')).count();
     format!(
@@ -29,7 +29,7 @@ pub fn described(file: &str) -> String {
     )
 }
 
-/// A file of this many lines, a multiple of 16, and this many bytes. Each plain line has its number, so that no two are alike.
+/// A file of this many lines, a multiple of 16, and this many bytes. Each plain line has its number, so that no two are equal.
 fn file(lines: usize, bytes: usize) -> String {
     let groups = lines / GROUP;
     let mut text = String::new();
@@ -71,7 +71,7 @@ pub fn calm() -> String {
     text
 }
 
-/// Some of them taken, some not; a few names are not set.
+/// The directives of a group. Some branches are taken, some not; a few names are not set.
 fn directives_of(group: usize) -> [String; DIRECTIVES] {
     let (one, other) = (group % SET, group * 7 % SET);
     let open = match group % 5 {

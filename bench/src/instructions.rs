@@ -1,5 +1,5 @@
-//! Counts the instructions of one call with valgrind's callgrind. A count is the same in every run on one machine, whatever else that does.
-//! What comes before and after the call does not count: callgrind collects inside the exported function alone.
+//! Counts the instructions of one call with valgrind's callgrind. A count is the same in every run on one machine, whatever else
+//! it does. Only the call itself counts: callgrind collects inside the exported function.
 
 use std::io::ErrorKind;
 use std::path::Path;
@@ -8,7 +8,7 @@ use std::{env, fs};
 
 use crate::{evaluation, selection, tables, tokens};
 
-/// What is counted: the name of its profile, what it is, the exported function, and something that calls this once.
+/// A call to count: the name of its profile, what it is, the exported function, and a function that calls this once.
 struct Counted {
     name: &'static str,
     what: &'static str,
@@ -80,7 +80,7 @@ pub fn call(name: &str) {
     (counted.expect("the name of a call").call)();
 }
 
-/// Counts all, and leaves a profile of each in the folder.
+/// Counts all calls, and leaves a profile of each in the folder.
 pub fn count(folder: &Path) {
     fs::create_dir_all(folder).expect("a folder for the profiles");
     let counts = COUNTED.each_ref().map(|counted| counted.count(folder));
@@ -111,8 +111,8 @@ impl Counted {
             Err(error) if error.kind() == ErrorKind::NotFound => missing(),
             run => run.expect("valgrind runs"),
         };
-        let said = String::from_utf8_lossy(&output.stderr);
-        assert!(output.status.success(), "{}: {said}", self.name);
+        let message = String::from_utf8_lossy(&output.stderr);
+        assert!(output.status.success(), "{}: {message}", self.name);
         let text = fs::read_to_string(&profile).expect("a profile");
         let counts = text.lines().find_map(|line| line.strip_prefix("totals: "));
         let count = counts
@@ -132,7 +132,7 @@ fn in_thousands(count: u64) -> String {
     let digits = count.to_string();
     let mut text = String::new();
     for (index, digit) in digits.chars().enumerate() {
-        if index > 0 && (digits.len() - index) % 3 == 0 {
+        if index > 0 && (digits.len() - index).is_multiple_of(3) {
             text.push(',');
         }
         text.push(digit);

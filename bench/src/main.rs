@@ -1,10 +1,8 @@
 //! Times the proved library beside the independent Rust implementation, and the command whose path is given beside other tools, on
 //! the same inputs; release builds. With `--instructions FOLDER` it counts the library's instructions instead.
 
-// the command's declarations; not every call is timed
-#[allow(dead_code)]
-#[path = "../../cli/src/c.rs"]
-mod c;
+#![forbid(unsafe_code)]
+
 mod evaluation;
 mod expressions;
 mod files;
@@ -23,7 +21,7 @@ fn main() {
     let arguments: Vec<String> = std::env::args().skip(1).collect();
     match arguments.iter().map(String::as_str).collect::<Vec<_>>()[..] {
         ["--instructions", folder] => instructions::count(Path::new(folder)),
-        // what is counted, started under valgrind
+        // The program itself under valgrind.
         ["--once", name] => instructions::call(name),
         [path] => time(path),
         _ => panic!("the path of the command, or --instructions and a folder"),
@@ -31,7 +29,7 @@ fn main() {
 }
 
 fn time(path: &str) {
-    // Asked for now, since the processes come last, and run in another folder.
+    // Now, since the processes come last and run in another folder.
     let command = std::fs::canonicalize(path).unwrap_or_else(|error| panic!("{path}: {error}"));
     println!(
         "Medians of {} rounds, or of as many as a line says. What is compared runs in turns.",

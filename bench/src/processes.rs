@@ -6,21 +6,23 @@ use std::io::ErrorKind;
 use std::path::Path;
 use std::process::{Command, Stdio};
 
+use bindings::limit::RECORD_BYTES;
+
 use crate::files;
 use crate::folder::Folder;
 use crate::settings;
 use crate::timing::{medians, ratio, ROUNDS};
 
-/// What of a tool's output has to be as the command's is.
+/// In what a tool's output has to agree with the command's.
 #[derive(Clone, Copy)]
 enum Same {
     Bytes,
-    /// cpp leaves out and adds blank lines as it likes; the files have none.
+    /// cpp removes and adds blank lines; the files have none.
     LinesNotBlank,
     Nothing,
 }
 
-/// A program and its arguments, told in a few words.
+/// A program with its arguments, and a few words that describe it.
 struct Tool {
     what: &'static str,
     program: OsString,
@@ -31,12 +33,15 @@ struct Tool {
 pub fn time(command: &Path) {
     let folder = Folder::new();
     folder.write("settings.txt", settings::text(files::SET).as_bytes());
-    folder.write("settings.bin", &settings::table()[..files::SET * 128]);
+    folder.write(
+        "settings.bin",
+        &settings::table()[..files::SET * RECORD_BYTES],
+    );
     let definitions = settings::in_c(files::SET, files::NAMED);
     folder.write("settings.h", definitions.as_bytes());
     let (installed, missing): (Vec<Tool>, Vec<Tool>) =
         others().into_iter().partition(Tool::is_installed);
-    // The command comes first and is never taken for missing: the others are compared with it.
+    // The command comes first and is always there: the others are compared with it.
     let tools: Vec<Tool> = own(command).into_iter().chain(installed).collect();
     for file in files::both() {
         folder.write("file.dsc", file.as_bytes());
@@ -58,8 +63,8 @@ fn own(command: &Path) -> [Tool; 2] {
     ]
 }
 
-/// Every name is decided for unifdef, which would leave a directive in its place otherwise; with -x2 it ends with 0 where it changed
-/// something.
+/// unifdef gets a definition or -U for every name, or it would leave directives as they are; with -x2 its exit status is 0 if it
+/// changed something.
 #[rustfmt::skip]
 fn others() -> [Tool; 4] {
     let options = settings::options(files::SET, files::NAMED).join(" ");
@@ -91,7 +96,7 @@ impl Tool {
         let output = Command::new(&self.program)
             .args(&self.arguments)
             .current_dir(folder)
-            // cargo sets it for what it runs, and every search for a shared library would go through its folders first
+            // cargo sets it for what it runs, and a search for a shared library would try its folders first
             .env_remove("LD_LIBRARY_PATH")
             .stdin(Stdio::null())
             .stderr(Stdio::inherit())
@@ -125,7 +130,7 @@ fn lines_not_blank(text: &[u8]) -> impl Iterator<Item = &[u8]> {
         .filter(|line| !line.is_empty())
 }
 
-/// What is timed keeps the same lines, and some.
+/// Checks that all tools keep the same lines, and at least one.
 fn check(tools: &[Tool], folder: &Path) {
     let kept = tools[0].run(folder);
     assert!(!kept.is_empty());

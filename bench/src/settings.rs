@@ -1,4 +1,6 @@
-//! The settings that are timed: 500 numbers, as a table, and some of them as texts that commands read.
+//! The settings of the benchmark: 500 numbers, as a table, and some of them as text that commands read.
+
+use bindings::limit::RECORD_BYTES;
 
 pub fn names() -> Vec<String> {
     (0..500).map(name).collect()
@@ -16,8 +18,8 @@ pub fn table() -> Vec<u8> {
         .collect()
 }
 
-pub fn record(name: &str, value: u64) -> [u8; 128] {
-    let mut record = [0; 128];
+pub fn record(name: &str, value: u64) -> [u8; RECORD_BYTES] {
+    let mut record = [0; RECORD_BYTES];
     record[..name.len()].copy_from_slice(name.as_bytes());
     record[65] = 8;
     record[72..80].copy_from_slice(&value.to_le_bytes());
@@ -29,7 +31,8 @@ pub fn text(set: usize) -> String {
     (0..set).map(|i| format!("{}={i}\n", name(i))).collect()
 }
 
-/// The first settings, as C reads them; the names after these are said to be missing, since unifdef leaves a name undecided otherwise.
+/// The first settings, as C reads them; the names after these are undefined, so that unifdef decides
+/// them too.
 pub fn in_c(set: usize, named: usize) -> String {
     let line = |i| match i < set {
         true => format!("#define {} {i}\n", name(i)),
@@ -38,7 +41,7 @@ pub fn in_c(set: usize, named: usize) -> String {
     (0..named).map(line).collect()
 }
 
-/// The same as options.
+/// The same as options of unifdef.
 pub fn options(set: usize, named: usize) -> Vec<String> {
     let option = |i| match i < set {
         true => format!("-D{}={i}", name(i)),

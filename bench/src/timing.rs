@@ -1,10 +1,10 @@
-//! Pieces of work, timed in turns, so that whatever else the machine does falls on all of them alike.
+//! Pieces of work, timed in turns, so that other load on the machine affects all of them equally.
 
 use std::time::{Duration, Instant};
 
 pub const ROUNDS: usize = 51;
 
-/// The median time of each piece of work; a first turn, which is not counted, fills the caches.
+/// The median time of each piece of work; a first turn, which does not count, fills the caches.
 pub fn medians(rounds: usize, works: &mut [&mut dyn FnMut()]) -> Vec<Duration> {
     works.iter_mut().for_each(|work| work());
     let mut times = vec![Vec::with_capacity(rounds); works.len()];

@@ -3,19 +3,19 @@
 
 use std::hint::black_box;
 
+use bindings::limit::MAX_TOKENS;
 use oracle::{Scan, Token};
 
-use crate::c;
 use crate::expressions;
 use crate::timing::compare;
 
 /// What the library writes: the refusal and the number of tokens, then of each token its code, start, length and value.
 struct Lent {
     out: [u64; 2],
-    codes: [u8; 200],
-    starts: [u16; 200],
-    lens: [u16; 200],
-    values: [u64; 200],
+    codes: [u8; MAX_TOKENS],
+    starts: [u16; MAX_TOKENS],
+    lens: [u16; MAX_TOKENS],
+    values: [u64; MAX_TOKENS],
 }
 
 pub fn time() {
@@ -64,30 +64,26 @@ impl Lent {
     fn new() -> Lent {
         Lent {
             out: [0; 2],
-            codes: [0; 200],
-            starts: [0; 200],
-            lens: [0; 200],
-            values: [0; 200],
+            codes: [0; MAX_TOKENS],
+            starts: [0; MAX_TOKENS],
+            lens: [0; MAX_TOKENS],
+            values: [0; MAX_TOKENS],
         }
     }
 
     fn scan(&mut self, text: &str) {
-        // SAFETY: the call reads the text and writes within the arrays, which have the lengths that it asks for.
-        unsafe {
-            c::korzhinay_tokens(
-                text.as_ptr().cast(),
-                text.len(),
-                self.out.as_mut_ptr(),
-                self.codes.as_mut_ptr(),
-                self.starts.as_mut_ptr(),
-                self.lens.as_mut_ptr(),
-                self.values.as_mut_ptr(),
-            )
-        };
+        bindings::tokens(
+            text.as_bytes(),
+            &mut self.out,
+            &mut self.codes,
+            &mut self.starts,
+            &mut self.lens,
+            &mut self.values,
+        );
         black_box(self);
     }
 
-    /// What is timed has the same tokens on both sides, and no refusal.
+    /// Checks that both sides read the same tokens, without a refusal.
     fn check(&mut self, text: &str) {
         self.scan(text);
         let [refusal, count] = self.out;

@@ -34,8 +34,8 @@ impl Subject for Evaluations {
 
     fn fixed(&self, tally: &mut Tally) -> Result<(), Mismatch> {
         let record = tables::record(b"A", 1, b"x");
-        let mut shown_record = Shown::new(&record, 1);
-        let mut shown_name = Shown::new(b"$(A)", 1);
+        let shown_record = Shown::new(&record, 1);
+        let shown_name = Shown::new(b"$(A)", 1);
         let (record_at, name_at) = (shown_record.input(), shown_name.input());
         for empty in Input::empty_ones() {
             for other in Input::empty_ones() {
@@ -80,8 +80,8 @@ impl Subject for Evaluations {
 }
 
 fn compare(expr: &[u8], table: &[u8], pattern: u64, tally: &mut Tally) -> Result<(), Mismatch> {
-    let mut shown = Shown::new(expr, pattern);
-    let mut shown_table = Shown::new(table, pattern >> 8);
+    let shown = Shown::new(expr, pattern);
+    let shown_table = Shown::new(table, pattern >> 8);
     compare_at(
         expr,
         shown.input(),
@@ -114,8 +114,7 @@ fn compare_at(
     if expected.1[0] != 0 {
         tally.extra += 1;
     }
-    crash::input(expr);
-    let given = library::evaluate(expr_at, table_at, pattern);
+    let given = crash::watched(expr, || library::evaluate(expr_at, table_at, pattern));
     if given.as_ref() == Ok(&expected) {
         return Ok(());
     }
@@ -153,7 +152,7 @@ fn answer(expr: &[u8], table: &[u8]) -> (u8, [u64; 6]) {
 }
 
 /// Which memory a part lies in, and where. An empty part has its place too:
-/// it is never at the very end of its memory, so this tells it.
+/// it is never at the very end of its memory, so this finds it.
 fn place(expr: &[u8], table: &[u8], part: &[u8]) -> (u64, u64) {
     let range = |bytes: &[u8]| -> Range<usize> {
         let range = bytes.as_ptr_range();

@@ -38,13 +38,13 @@ impl Subject for Fields {
 
     fn fixed(&self, tally: &mut Tally) -> Result<(), Mismatch> {
         for empty in Input::empty_ones() {
-            let ask = Ask {
+            let case = Case {
                 expr: b"",
                 table: b"",
                 datum: 0,
                 room: 0,
             };
-            ask.compare_at(empty, empty, 1, tally)?;
+            case.compare_at(empty, empty, 1, tally)?;
         }
         let settings = [
             tables::record(b"E", 1, b""),
@@ -55,13 +55,13 @@ impl Subject for Fields {
         for datum in 0..=255 {
             for expr in EXPRESSIONS {
                 for room in 0..=12 {
-                    let ask = Ask {
+                    let case = Case {
                         expr: expr.as_bytes(),
                         table: &settings,
                         datum,
                         room,
                     };
-                    ask.compare(room as u64 * 0x1111_1111_1111_1111, tally)?;
+                    case.compare(room as u64 * 0x1111_1111_1111_1111, tally)?;
                 }
             }
         }
@@ -70,14 +70,14 @@ impl Subject for Fields {
                 let expr = format!("{start}{}'", "s".repeat(count));
                 let needed = each * (count + 1);
                 for room in [needed - 1, needed, needed + 1, AMPLE, 0] {
-                    let ask = Ask {
+                    let case = Case {
                         expr: expr.as_bytes(),
                         table: &settings[..127],
                         datum: 0,
                         room,
                     };
-                    ask.compare(2, tally)?;
-                    Ask { table: b"", ..ask }.compare(3, tally)?;
+                    case.compare(2, tally)?;
+                    Case { table: b"", ..case }.compare(3, tally)?;
                 }
             }
         }
@@ -92,31 +92,31 @@ impl Subject for Fields {
             let outcome = oracle::evaluate(&expr, &table).ok();
             let datum = gen::datum(rng, outcome.map(|outcome| outcome.value.kind()));
             let needed = oracle::field(&expr, &table, datum, &mut [0; AMPLE]).unwrap_or(0);
-            let ask = Ask {
+            let case = Case {
                 expr: &expr,
                 table: &table,
                 datum,
                 room: gen::room(rng, needed),
             };
-            ask.compare(rng.next(), tally)?;
+            case.compare(rng.next(), tally)?;
         }
         Ok(())
     }
 }
 
-/// What is asked for, but for the buffer's bytes before the call.
+/// One call, without the bytes of the buffer before it.
 #[derive(Clone, Copy)]
-struct Ask<'a> {
+struct Case<'a> {
     expr: &'a [u8],
     table: &'a [u8],
     datum: u8,
     room: usize,
 }
 
-impl Ask<'_> {
+impl Case<'_> {
     fn compare(&self, pattern: u64, tally: &mut Tally) -> Result<(), Mismatch> {
-        let mut shown = Shown::new(self.expr, pattern);
-        let mut shown_table = Shown::new(self.table, pattern >> 8);
+        let shown = Shown::new(self.expr, pattern);
+        let shown_table = Shown::new(self.table, pattern >> 8);
         self.compare_at(shown.input(), shown_table.input(), pattern, tally)?;
         let checked = shown.check("expression").and(shown_table.check("table"));
         checked.map_err(|what| self.broken_memory(what))
@@ -139,9 +139,10 @@ impl Ask<'_> {
             buffer,
         };
         tally.add(expected.refusal);
-        crash::input(self.expr);
-        let given = library::field(expr_at, table_at, self.datum, self.room, pattern)
-            .map_err(|what| self.broken_memory(what))?;
+        let given = crash::watched(self.expr, || {
+            library::field(expr_at, table_at, self.datum, self.room, pattern)
+        });
+        let given = given.map_err(|what| self.broken_memory(what))?;
         if given == expected {
             return Ok(());
         }

@@ -1,19 +1,19 @@
 //! Demand 3: what an accepted run does not read makes no difference. Pairs of
 //! files and tables that agree in what is read must get the same answer from
-//! the library, whatever else they hold. Changes of what is read must show.
+//! the library. Changes of what is read must show.
 
 use crate::gen::settings::{self, Names};
 use crate::gen::{disturbed, files, short_files, tables, twins};
 use crate::library::Selected;
 use crate::prng::Prng;
 use crate::report::{Mismatch, Tally};
-use crate::selections::{write_selected, Ask};
+use crate::selections::{write_selected, Case};
 use crate::subject::Subject;
 
 /// Files to try until one is accepted.
 const TRIES: usize = 50;
 
-/// More than any file's lines.
+/// As many marks as any file needs.
 const ROOM: usize = oracle::selection::MAX_LINES;
 
 pub struct Isolation;
@@ -31,7 +31,7 @@ impl Subject for Isolation {
         &[]
     }
 
-    /// Without these a library that always gives the same would pass.
+    /// Without this a library that always gives the same answer would pass.
     fn lacks(&self, random: &Tally) -> Option<String> {
         let (pairs, showed) = (random.met(0), random.extra);
         (showed < pairs / 2)
@@ -59,7 +59,7 @@ impl Subject for Isolation {
         Err(Mismatch {
             what: format!("none of {TRIES} files was accepted"),
             input: "files most of which are made to be accepted".to_string(),
-            oracle: "not asked".to_string(),
+            oracle: "not called".to_string(),
             library: "refuses them all".to_string(),
         })
     }
@@ -67,7 +67,7 @@ impl Subject for Isolation {
 
 /// Compares the first file, if it is accepted, with a second one.
 fn pair(rng: &mut Prng, file: &[u8], table: &[u8], tally: &mut Tally) -> Result<bool, Mismatch> {
-    let first = Ask {
+    let first = Case {
         file,
         table,
         room: ROOM,
@@ -77,7 +77,7 @@ fn pair(rng: &mut Prng, file: &[u8], table: &[u8], tally: &mut Tally) -> Result<
     if answer.refusal != 0 {
         return Ok(false);
     }
-    // Which directives are read is the rules' business, not the library's.
+    // Which directives are read is decided by the oracle, not by the library under test.
     let Some(marks) = twins::marks(file, table) else {
         return Err(Mismatch {
             what: "a file that is to be refused".to_string(),
@@ -89,7 +89,7 @@ fn pair(rng: &mut Prng, file: &[u8], table: &[u8], tally: &mut Tally) -> Result<
     let named = twins::named(file, &marks);
     let second_file = twins::file(rng, file, &marks);
     let second_table = twins::table(rng, table, &named);
-    let second = Ask {
+    let second = Case {
         file: &second_file,
         table: &second_table,
         room: rng.between(marks.len(), ROOM),
@@ -114,24 +114,24 @@ fn pair(rng: &mut Prng, file: &[u8], table: &[u8], tally: &mut Tally) -> Result<
 /// A change of a read directive has to show; one of a named record may.
 fn disturb(
     rng: &mut Prng,
-    first: &Ask,
+    first: &Case,
     marks: &[u8],
     answer: &Selected,
     tally: &mut Tally,
 ) -> Result<(), Mismatch> {
     if let Some(file) = disturbed::file(rng, first.file, marks) {
-        let ask = Ask {
+        let case = Case {
             file: &file,
             ..*first
         };
-        let other = call(&ask, rng.next())?;
+        let other = call(&case, rng.next())?;
         if other == *answer {
             return Err(Mismatch {
                 what: "the same answer where a read directive is another".to_string(),
                 input: format!(
                     "{}\n    and the second:\n    {}",
                     first.write(),
-                    ask.write()
+                    case.write()
                 ),
                 oracle: "another answer".to_string(),
                 library: write_selected(&other),
@@ -141,19 +141,21 @@ fn disturb(
     }
     let named = twins::named(first.file, marks);
     if let Some(table) = disturbed::table(rng, first.table, &named) {
-        let ask = Ask {
+        let case = Case {
             table: &table,
             ..*first
         };
-        let other = call(&ask, rng.next())?;
+        let other = call(&case, rng.next())?;
         tally.extra += u64::from(other != *answer);
     }
     Ok(())
 }
 
 /// The library's answer, with the marks of the lines alone.
-fn call(ask: &Ask, pattern: u64) -> Result<Selected, Mismatch> {
-    let mut answer = ask.call(pattern).map_err(|what| ask.broken_memory(what))?;
+fn call(case: &Case, pattern: u64) -> Result<Selected, Mismatch> {
+    let mut answer = case
+        .call(pattern)
+        .map_err(|what| case.broken_memory(what))?;
     answer.marks.truncate(answer.lines as usize);
     Ok(answer)
 }

@@ -1,67 +1,87 @@
 //! Memory that is lent to the library, watched on both sides.
 
+use std::cell::Cell;
+use std::marker::PhantomData;
 use std::ptr;
 
 /// Elements on each side of lent memory that the library has to leave alone.
 const GUARD: usize = 16;
 
-/// Bytes that would go on with most tokens, or end them, if they were read:
-/// a library that looks beyond its input gives another answer.
+/// Bytes that would continue most tokens, or end them, if they were read:
+/// a library that reads beyond its input gives another answer.
 const NEIGHBOURS: &[u8] = b"=A0)\"<.x1|_'&L>(!\x00#a";
 
-/// A pointer and a length as they go to the library.
+/// A pointer and a length as they go to the library: valid for reads of this many bytes as long as it lives.
 #[derive(Clone, Copy)]
-pub struct Input {
-    pub start: *const u8,
-    pub len: usize,
+pub struct Input<'a> {
+    start: *const u8,
+    len: usize,
+    lent: PhantomData<&'a Cell<u8>>,
 }
 
-impl Input {
+impl Input<'_> {
     /// Inputs of no bytes, of which not even the address may matter.
-    pub fn empty_ones() -> [Input; 3] {
+    pub fn empty_ones() -> [Input<'static>; 3] {
         let last = usize::MAX as *const u8;
-        [ptr::null(), ptr::dangling(), last].map(|start| Input { start, len: 0 })
+        [ptr::null(), ptr::dangling(), last].map(|start| Input {
+            start,
+            len: 0,
+            lent: PhantomData,
+        })
+    }
+
+    pub fn start(self) -> *const u8 {
+        self.start
+    }
+
+    pub fn len(self) -> usize {
+        self.len
     }
 }
 
-/// Bytes lent to be read only, amid tempting neighbours.
+/// Bytes that the library may only read, between neighbours that it may not read.
 pub struct Shown {
-    cells: Vec<u8>,
+    /// Cells, so that a library that writes to them is seen by `check`: the compiler does not take them for constant.
+    cells: Vec<Cell<u8>>,
     untouched: Vec<u8>,
     before: usize,
     len: usize,
 }
 
 impl Shown {
-    /// `shift` moves the choice of neighbours and the alignment.
+    /// `shift` changes the neighbours and the alignment.
     pub fn new(bytes: &[u8], shift: u64) -> Shown {
         let shift = shift as usize % NEIGHBOURS.len();
         let neighbours = || NEIGHBOURS.iter().cycle().skip(shift);
         let before = GUARD + shift;
-        let mut cells = Vec::with_capacity(before + bytes.len() + GUARD);
-        cells.extend(neighbours().take(before));
-        cells.extend(bytes);
-        cells.extend(neighbours().take(GUARD));
+        let mut untouched = Vec::with_capacity(before + bytes.len() + GUARD);
+        untouched.extend(neighbours().take(before));
+        untouched.extend(bytes);
+        untouched.extend(neighbours().take(GUARD));
         Shown {
-            untouched: cells.clone(),
-            cells,
+            cells: untouched.iter().copied().map(Cell::new).collect(),
+            untouched,
             before,
             len: bytes.len(),
         }
     }
 
-    /// The pointer may be written through, so that a library that does so is
-    /// seen by `check` and not hidden by the compiler.
-    pub fn input(&mut self) -> Input {
+    pub fn input(&self) -> Input<'_> {
         Input {
-            start: self.cells[self.before..].as_mut_ptr(),
+            start: self.cells[self.before..][..self.len].as_ptr().cast(),
             len: self.len,
+            lent: PhantomData,
         }
     }
 
     /// Whether the library left the bytes and their neighbours alone.
     pub fn check(&self, what: &str) -> Result<(), String> {
-        if self.cells == self.untouched {
+        if self
+            .cells
+            .iter()
+            .map(Cell::get)
+            .eq(self.untouched.iter().copied())
+        {
             Ok(())
         } else {
             Err(format!("the library wrote to the {what} or beside it"))
@@ -69,7 +89,7 @@ impl Shown {
     }
 }
 
-/// A buffer lent to be written to, filled with `pattern` before.
+/// A buffer that the library may write to, filled with `pattern` before.
 pub struct Buffer<T> {
     cells: Vec<T>,
     pattern: T,
@@ -83,6 +103,7 @@ impl<T: Copy + PartialEq> Buffer<T> {
         }
     }
 
+    /// The first of the cells that are lent: valid for writes of `len` elements, and of the guard after them.
     pub fn start(&mut self) -> *mut T {
         self.cells[GUARD..].as_mut_ptr()
     }

@@ -1,65 +1,32 @@
-//! The calls of the library under test.
+//! The calls of the library under test, with watched memory. They use the C functions, since some inputs are null or dangling.
 
+use bindings::raw::{
+    korzhinay_evaluate, korzhinay_field, korzhinay_lookup, korzhinay_select, korzhinay_table,
+    korzhinay_tokens,
+};
 use oracle::tokens::MAX_TOKENS;
 
 use crate::lent::{Buffer, Input};
 
-extern "C" {
-    fn korzhinay_table(table: *const u8, len: usize) -> u8;
-    fn korzhinay_lookup(
-        table: *const u8,
-        table_len: usize,
-        name: *const u8,
-        name_len: usize,
-        out: *mut u64,
-    ) -> u8;
-    fn korzhinay_tokens(
-        expr: *const u8,
-        len: usize,
-        out: *mut u64,
-        codes: *mut u8,
-        starts: *mut u16,
-        lens: *mut u16,
-        values: *mut u64,
-    );
-    fn korzhinay_evaluate(
-        expr: *const u8,
-        len: usize,
-        table: *const u8,
-        table_len: usize,
-        out: *mut u64,
-    ) -> u8;
-    fn korzhinay_field(
-        buffer: *mut u8,
-        buffer_len: usize,
-        expr: *const u8,
-        len: usize,
-        table: *const u8,
-        table_len: usize,
-        datum: u8,
-        written: *mut u64,
-    ) -> u8;
-    fn korzhinay_select(
-        marks: *mut u8,
-        marks_len: usize,
-        file: *const u8,
-        file_len: usize,
-        table: *const u8,
-        table_len: usize,
-        out: *mut u64,
-    ) -> u8;
-}
-
 /// 0 for a well formed table, else its refusal number.
 pub fn table(table: Input) -> u8 {
-    unsafe { korzhinay_table(table.start, table.len) }
+    // SAFETY: an input is valid for reads of its length.
+    unsafe { korzhinay_table(table.start(), table.len()) }
 }
 
 /// 0 or the refusal number, and kind, number or start, and length of a setting.
 pub fn lookup(table: Input, name: Input, pattern: u64) -> Result<(u8, [u64; 3]), String> {
     let mut out = Buffer::new(3, pattern);
-    let refusal =
-        unsafe { korzhinay_lookup(table.start, table.len, name.start, name.len, out.start()) };
+    // SAFETY: inputs are valid for reads of their lengths; `out` has 3 numbers of its own.
+    let refusal = unsafe {
+        korzhinay_lookup(
+            table.start(),
+            table.len(),
+            name.start(),
+            name.len(),
+            out.start(),
+        )
+    };
     out.check("lookup's three numbers")?;
     Ok((refusal, [out.cells()[0], out.cells()[1], out.cells()[2]]))
 }
@@ -80,10 +47,11 @@ pub fn tokens(expr: Input, pattern: u64) -> Result<Tokens, String> {
     let mut starts = Buffer::new(MAX_TOKENS, pattern as u16);
     let mut lens = Buffer::new(MAX_TOKENS, !pattern as u16);
     let mut values = Buffer::new(MAX_TOKENS, !pattern);
+    // SAFETY: the input is valid for reads of its length; `out` has 2 numbers and the others 200 entries, each of its own.
     unsafe {
         korzhinay_tokens(
-            expr.start,
-            expr.len,
+            expr.start(),
+            expr.len(),
             out.start(),
             codes.start(),
             starts.start(),
@@ -109,8 +77,16 @@ pub fn tokens(expr: Input, pattern: u64) -> Result<Tokens, String> {
 /// 0 or the refusal number, and the six numbers of an answer.
 pub fn evaluate(expr: Input, table: Input, pattern: u64) -> Result<(u8, [u64; 6]), String> {
     let mut out = Buffer::new(6, pattern);
-    let refusal =
-        unsafe { korzhinay_evaluate(expr.start, expr.len, table.start, table.len, out.start()) };
+    // SAFETY: inputs are valid for reads of their lengths; `out` has 6 numbers of its own.
+    let refusal = unsafe {
+        korzhinay_evaluate(
+            expr.start(),
+            expr.len(),
+            table.start(),
+            table.len(),
+            out.start(),
+        )
+    };
     out.check("answer's six numbers")?;
     let mut answer = [0; 6];
     answer.copy_from_slice(out.cells());
@@ -134,24 +110,25 @@ pub fn field(
     pattern: u64,
 ) -> Result<Field, String> {
     let mut buffer = Buffer::new(room, pattern as u8);
-    let mut length = Buffer::new(1, pattern);
+    let mut written = Buffer::new(1, pattern);
+    // SAFETY: inputs are valid for reads of their lengths; the buffer has `room` bytes and `written` one number, each of its own.
     let refusal = unsafe {
         korzhinay_field(
             buffer.start(),
             room,
-            expr.start,
-            expr.len,
-            table.start,
-            table.len,
+            expr.start(),
+            expr.len(),
+            table.start(),
+            table.len(),
             datum,
-            length.start(),
+            written.start(),
         )
     };
     buffer.check("field's buffer")?;
-    length.check("field's length")?;
+    written.check("field's length")?;
     Ok(Field {
         refusal,
-        length: length.cells()[0],
+        length: written.cells()[0],
         buffer: buffer.cells().to_vec(),
     })
 }
@@ -169,8 +146,8 @@ pub struct Selected {
 /// Marks of `room` bytes are lent, filled with the pattern's last byte.
 pub fn select(file: Input, table: Input, room: usize, pattern: u64) -> Result<Selected, String> {
     let mut marks = Buffer::new(room, pattern as u8);
-    let start = marks.start();
-    let selected = select_into(start, room, file, table, pattern)?;
+    // SAFETY: the marks have `room` bytes of their own.
+    let selected = unsafe { select_into(marks.start(), room, file, table, pattern)? };
     marks.check("marks")?;
     Ok(Selected {
         marks: marks.cells().to_vec(),
@@ -180,15 +157,21 @@ pub fn select(file: Input, table: Input, room: usize, pattern: u64) -> Result<Se
 
 /// With no marks at all, at any address.
 pub fn select_without_marks(
-    nowhere: Input,
+    nowhere: *const u8,
     file: Input,
     table: Input,
     pattern: u64,
 ) -> Result<Selected, String> {
-    select_into(nowhere.start.cast_mut(), 0, file, table, pattern)
+    // SAFETY: any pointer is valid for writes of 0 bytes.
+    unsafe { select_into(nowhere.cast_mut(), 0, file, table, pattern) }
 }
 
-fn select_into(
+/// A selection whose marks are not looked at.
+///
+/// # Safety
+///
+/// `marks` is valid for writes of `room` bytes, which overlap neither the file nor the table.
+unsafe fn select_into(
     marks: *mut u8,
     room: usize,
     file: Input,
@@ -196,14 +179,16 @@ fn select_into(
     pattern: u64,
 ) -> Result<Selected, String> {
     let mut out = Buffer::new(3, pattern);
+    // SAFETY: inputs are valid for reads of their lengths, and `out` has 3 numbers of its own; the marks are as this function's
+    // terms say.
     let refusal = unsafe {
         korzhinay_select(
             marks,
             room,
-            file.start,
-            file.len,
-            table.start,
-            table.len,
+            file.start(),
+            file.len(),
+            table.start(),
+            table.len(),
             out.start(),
         )
     };

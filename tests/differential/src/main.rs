@@ -3,6 +3,8 @@
 //! The folder of `libkorzhinay.a` is given when this is built:
 //! `KORZHINAY_LIB_DIR=folder cargo run --release`.
 
+#![deny(clippy::undocumented_unsafe_blocks, unsafe_op_in_unsafe_fn)]
+
 mod crash;
 mod evaluations;
 mod fields;

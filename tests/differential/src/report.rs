@@ -1,4 +1,4 @@
-//! What is said about the cases: counts of answers, and a mismatch.
+//! What is reported: counts of answers, and a mismatch.
 
 use std::fmt::Write;
 
@@ -10,7 +10,7 @@ pub struct Mismatch {
     pub library: String,
 }
 
-/// How often each answer was met; 0 stands for an accepted input.
+/// How often each answer was met; 0 means an accepted input.
 pub struct Tally {
     answers: [u64; 256],
     /// Further comparisons that have no refusal, such as lookups.

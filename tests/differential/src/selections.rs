@@ -36,12 +36,12 @@ impl Subject for Selections {
         for file in short_files::all() {
             let lines = line_count(&file);
             for (table, room) in [(&b""[..], lines + 2), (&record, lines)] {
-                let ask = Ask {
+                let case = Case {
                     file: &file,
                     table,
                     room,
                 };
-                ask.compare(0x77, tally)?;
+                case.compare(0x77, tally)?;
             }
         }
         long_names(tally)?;
@@ -51,7 +51,7 @@ impl Subject for Selections {
                 .enumerate()
             {
                 for table in [&b""[..], &record, &record[1..]] {
-                    Ask { file, table, room }.compare(index as u64, tally)?;
+                    Case { file, table, room }.compare(index as u64, tally)?;
                 }
             }
         }
@@ -63,12 +63,12 @@ impl Subject for Selections {
         let names = Names::of(&table);
         for _ in 0..TO_A_TABLE {
             let file = files::any(rng, &names, &table);
-            let ask = Ask {
+            let case = Case {
                 file: &file,
                 table: &table,
                 room: room(rng, line_count(&file)),
             };
-            ask.compare(rng.next(), tally)?;
+            case.compare(rng.next(), tally)?;
         }
         Ok(())
     }
@@ -76,27 +76,30 @@ impl Subject for Selections {
 
 /// Files, tables and marks of no bytes, at any address.
 fn without_bytes(tally: &mut Tally) -> Result<(), Mismatch> {
-    let mut shown = Shown::new(b"x", 1);
+    let shown = Shown::new(b"x", 1);
     let one_line = shown.input();
     for nowhere in Input::empty_ones() {
         for empty in Input::empty_ones() {
             for (file, at) in [(&b""[..], empty), (b"x", one_line)] {
-                let ask = Ask {
+                let case = Case {
                     file,
                     table: b"",
                     room: 0,
                 };
-                let given = library::select_without_marks(nowhere, at, empty, 3);
-                ask.check(given, 3, tally)?;
-                let wide = Ask { room: 2, ..ask };
-                wide.check(library::select(at, empty, 2, 4), 4, tally)?;
+                let given = crash::watched(file, || {
+                    library::select_without_marks(nowhere.start(), at, empty, 3)
+                });
+                case.check(given, 3, tally)?;
+                let wide = Case { room: 2, ..case };
+                let given = crash::watched(file, || library::select(at, empty, 2, 4));
+                wide.check(given, 4, tally)?;
             }
         }
     }
     Ok(())
 }
 
-/// Names round the 64 bytes that a record has for one.
+/// Names of about 64 bytes, as many as a record has for one.
 fn long_names(tally: &mut Tally) -> Result<(), Mismatch> {
     for set in 62..=64 {
         let table = tables::record(&b"X".repeat(set), 0, &[0; 8]);
@@ -105,12 +108,12 @@ fn long_names(tally: &mut Tally) -> Result<(), Mismatch> {
             let file = format!(
                 "!ifdef {name}\na\n!endif\n!ifndef $({name})\nb\n!endif\n!if $({name}) == 0\n!endif"
             );
-            let ask = Ask {
+            let case = Case {
                 file: file.as_bytes(),
                 table: &table,
                 room: 8,
             };
-            ask.compare(5, tally)?;
+            case.compare(5, tally)?;
         }
     }
     Ok(())
@@ -132,26 +135,27 @@ fn room(rng: &mut Prng, lines: usize) -> usize {
     }
 }
 
-/// What is asked for, but for the bytes of the marks before the call.
+/// One call, without the bytes of the marks before it.
 #[derive(Clone, Copy)]
-pub struct Ask<'a> {
+pub struct Case<'a> {
     pub file: &'a [u8],
     pub table: &'a [u8],
     pub room: usize,
 }
 
-impl Ask<'_> {
+impl Case<'_> {
     fn compare(&self, pattern: u64, tally: &mut Tally) -> Result<(), Mismatch> {
         let given = self.call(pattern);
         self.check(given, pattern, tally)
     }
 
-    /// Runs the library, and sees that it only reads the file and the table.
+    /// Calls the library, and checks that it only reads the file and the table.
     pub fn call(&self, pattern: u64) -> Result<Selected, String> {
-        let mut shown = Shown::new(self.file, pattern);
-        let mut shown_table = Shown::new(self.table, pattern >> 8);
-        crash::input(self.file);
-        let given = library::select(shown.input(), shown_table.input(), self.room, pattern)?;
+        let shown = Shown::new(self.file, pattern);
+        let shown_table = Shown::new(self.table, pattern >> 8);
+        let given = crash::watched(self.file, || {
+            library::select(shown.input(), shown_table.input(), self.room, pattern)
+        })?;
         shown.check("file").and(shown_table.check("table"))?;
         Ok(given)
     }

@@ -1,4 +1,4 @@
-//! Tables: whether they are well formed, and what stands under a name.
+//! Tables: whether they are well formed, and the setting of a name.
 
 use oracle::table::RECORD;
 use oracle::Setting;
@@ -28,8 +28,8 @@ impl Subject for Tables {
 
     fn fixed(&self, tally: &mut Tally) -> Result<(), Mismatch> {
         let record = gen::record(b"A", 1, b"x");
-        let mut shown_record = Shown::new(&record, 1);
-        let mut shown_name = Shown::new(b"A", 1);
+        let shown_record = Shown::new(&record, 1);
+        let shown_name = Shown::new(b"A", 1);
         let (record_at, name_at) = (shown_record.input(), shown_name.input());
         for empty in Input::empty_ones() {
             let table = Case::check(b"", empty, tally)?;
@@ -46,12 +46,12 @@ impl Subject for Tables {
 
     fn case(&self, rng: &mut Prng, tally: &mut Tally) -> Result<(), Mismatch> {
         let table = gen::valid(rng);
-        if !oracle::well_formed(&table) {
+        if !oracle::is_well_formed(&table) {
             return Err(Mismatch {
-                what: "the oracle refuses a table that was made to be good".to_string(),
+                what: "the oracle refuses a table that was made well formed".to_string(),
                 input: write_table(&table),
                 oracle: "1".to_string(),
-                library: "not asked".to_string(),
+                library: "not called".to_string(),
             });
         }
         let names = gen::lookups(rng, &table);
@@ -75,10 +75,10 @@ fn compare(
     pattern: u64,
     tally: &mut Tally,
 ) -> Result<(), Mismatch> {
-    let mut shown = Shown::new(table, pattern);
+    let shown = Shown::new(table, pattern);
     let case = Case::check(table, shown.input(), tally)?;
     for name in names {
-        let mut shown_name = Shown::new(name, pattern >> 8);
+        let shown_name = Shown::new(name, pattern >> 8);
         case.look_up(name, shown_name.input(), pattern, tally)?;
         shown_name
             .check("name")
@@ -89,21 +89,20 @@ fn compare(
         .map_err(|what| case.broken_memory(what, b""))
 }
 
-/// A table that both have said to be good, or both to be malformed.
+/// A table that both find well formed, or both malformed.
 struct Case<'a> {
     table: &'a [u8],
-    at: Input,
+    at: Input<'a>,
     well_formed: bool,
 }
 
 impl<'a> Case<'a> {
     /// Compares the check of `table`, which the library finds at `at`.
-    fn check(table: &'a [u8], at: Input, tally: &mut Tally) -> Result<Case<'a>, Mismatch> {
-        let well_formed = oracle::well_formed(table);
+    fn check(table: &'a [u8], at: Input<'a>, tally: &mut Tally) -> Result<Case<'a>, Mismatch> {
+        let well_formed = oracle::is_well_formed(table);
         let expected = u8::from(!well_formed);
         tally.add(expected);
-        crash::input(table);
-        let given = library::table(at);
+        let given = crash::watched(table, || library::table(at));
         if given == expected {
             return Ok(Case {
                 table,
@@ -127,8 +126,8 @@ impl<'a> Case<'a> {
         tally: &mut Tally,
     ) -> Result<(), Mismatch> {
         tally.extra += 1;
-        let given = library::lookup(self.at, name_at, pattern)
-            .map_err(|what| self.broken_memory(what, name))?;
+        let given = crash::watched(self.table, || library::lookup(self.at, name_at, pattern));
+        let given = given.map_err(|what| self.broken_memory(what, name))?;
         let expected = if self.well_formed {
             (0, numbers(oracle::lookup(self.table, name)))
         } else {

@@ -59,7 +59,7 @@ impl Subject for Tokens {
 }
 
 fn compare(expr: &[u8], pattern: u64, tally: &mut Tally) -> Result<(), Mismatch> {
-    let mut shown = Shown::new(expr, pattern);
+    let shown = Shown::new(expr, pattern);
     compare_at(shown.input(), expr, pattern, tally)?;
     shown.check("expression").map_err(|what| Mismatch {
         what,
@@ -73,8 +73,8 @@ fn compare(expr: &[u8], pattern: u64, tally: &mut Tally) -> Result<(), Mismatch>
 fn compare_at(input: Input, expr: &[u8], pattern: u64, tally: &mut Tally) -> Result<(), Mismatch> {
     let scan = oracle::scan(expr);
     tally.add(scan.refusal.unwrap_or(0));
-    crash::input(expr);
-    let (what, library) = match library::tokens(input, pattern) {
+    let given = crash::watched(expr, || library::tokens(input, pattern));
+    let (what, library) = match given {
         Err(what) => (what, "does".to_string()),
         Ok(tokens) => match difference(&scan, &tokens) {
             None => return Ok(()),

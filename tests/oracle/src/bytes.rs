@@ -1,4 +1,4 @@
-//! Sorts of bytes, and the names made of them (document 01, Tokens).
+//! Classes of bytes, and the names made of them (document 01, Tokens).
 //!
 //! Letters are the ASCII ones only; a byte from 0x80 up is never a letter.
 
@@ -6,7 +6,7 @@ pub fn is_blank(byte: u8) -> bool {
     byte == b' ' || byte == b'\t'
 }
 
-/// A byte that may stand anywhere in a run.
+/// A byte that may be anywhere in a run.
 pub fn is_run(byte: u8) -> bool {
     byte.is_ascii_alphanumeric() || byte == b'_'
 }

@@ -3,7 +3,7 @@
 use std::cmp::Ordering;
 
 use crate::refusal;
-use crate::table::{lookup, well_formed, Setting};
+use crate::table::{is_well_formed, lookup, Setting};
 use crate::tokens::{code, scan, Token};
 use crate::tree::{parse, Node, NodeId, Tree};
 
@@ -44,7 +44,7 @@ pub type Answer<'a> = Result<Outcome<'a>, u8>;
 
 /// The answer to one expression: refusals 1 to 12, or its value.
 pub fn evaluate<'a>(expr: &'a [u8], table: &'a [u8]) -> Answer<'a> {
-    if !well_formed(table) {
+    if !is_well_formed(table) {
         return Err(refusal::TABLE);
     }
     evaluate_with(expr, table)
@@ -60,13 +60,13 @@ pub(crate) fn evaluate_with<'a>(expr: &'a [u8], table: &'a [u8]) -> Answer<'a> {
     check_bars(expr, &scan.tokens)?;
     let operands = operands(expr, table, &scan.tokens)?;
     let work = Work { tree, operands };
-    work.settle(work.tree.root)?;
+    work.kind(work.tree.root)?;
     let mut count = 0;
     let value = work.value(work.tree.root, &mut count)?;
     Ok(Outcome { value, count })
 }
 
-/// `OR` has the code of `||` but is allowed anywhere, so the byte is asked.
+/// No `|` or `||` outside parentheses: both start with this byte. `OR` is allowed anywhere.
 fn check_bars(expr: &[u8], tokens: &[Token]) -> Result<(), u8> {
     let mut depth = 0;
     for token in tokens {
@@ -80,7 +80,7 @@ fn check_bars(expr: &[u8], tokens: &[Token]) -> Result<(), u8> {
     Ok(())
 }
 
-/// The value of each token that is an operand; 0 stands in for the others.
+/// The value of each token that is an operand; the others have 0.
 fn operands<'a>(expr: &'a [u8], table: &'a [u8], tokens: &[Token]) -> Result<Vec<Value<'a>>, u8> {
     let setting = |name| {
         lookup(table, name).map(|setting| match setting {
@@ -112,28 +112,28 @@ struct Work<'a> {
 impl<'a> Work<'a> {
     /// The kind of a node. It goes through operands that evaluation skips
     /// as well, and before any evaluation.
-    fn settle(&self, node: NodeId) -> Result<Kind, u8> {
+    fn kind(&self, node: NodeId) -> Result<Kind, u8> {
         match self.tree.nodes[node] {
             Node::Operand(token) => Ok(self.operands[token].kind()),
             Node::Unary(_, inner) => {
-                self.settle_number(inner)?;
+                self.check_number(inner)?;
                 Ok(Kind::Number)
             }
             Node::Binary(operator, left, right) => {
                 if is_comparison(operator) {
-                    if self.settle(left)? != self.settle(right)? {
+                    if self.kind(left)? != self.kind(right)? {
                         return Err(refusal::KIND);
                     }
                 } else {
-                    self.settle_number(left)?;
-                    self.settle_number(right)?;
+                    self.check_number(left)?;
+                    self.check_number(right)?;
                 }
                 Ok(Kind::Number)
             }
             Node::Choice(test, yes, no) => {
-                self.settle_number(test)?;
-                let kind = self.settle(yes)?;
-                if kind != self.settle(no)? {
+                self.check_number(test)?;
+                let kind = self.kind(yes)?;
+                if kind != self.kind(no)? {
                     return Err(refusal::KIND);
                 }
                 Ok(kind)
@@ -141,14 +141,14 @@ impl<'a> Work<'a> {
         }
     }
 
-    fn settle_number(&self, node: NodeId) -> Result<(), u8> {
-        match self.settle(node)? {
+    fn check_number(&self, node: NodeId) -> Result<(), u8> {
+        match self.kind(node)? {
             Kind::Number => Ok(()),
             _ => Err(refusal::KIND),
         }
     }
 
-    /// The value of a node whose kinds are settled. Each operator that is
+    /// The value of a node whose kinds are checked. Each operator that is
     /// reached adds 1 to the count, a short-circuited one too.
     fn value(&self, node: NodeId, count: &mut u64) -> Result<Value<'a>, u8> {
         match self.tree.nodes[node] {
@@ -190,7 +190,7 @@ impl<'a> Work<'a> {
     fn number(&self, node: NodeId, count: &mut u64) -> Result<u64, u8> {
         match self.value(node, count)? {
             Value::Number(number) => Ok(number),
-            _ => unreachable!("kinds are settled before evaluation"),
+            _ => unreachable!("kinds are checked before evaluation"),
         }
     }
 }
@@ -214,7 +214,7 @@ fn compare(operator: u8, left: Value, right: Value) -> bool {
         (Value::Number(left), Value::Number(right)) => left.cmp(&right),
         (Value::Text(left), Value::Text(right)) => left.cmp(right),
         (Value::Wide(left), Value::Wide(right)) => left.cmp(right),
-        _ => unreachable!("kinds are settled before evaluation"),
+        _ => unreachable!("kinds are checked before evaluation"),
     };
     match operator {
         code::LESS => order == Ordering::Less,

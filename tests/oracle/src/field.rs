@@ -14,7 +14,7 @@ pub mod datum {
 }
 
 /// Writes the field to the front of `buf` and gives its length. A refusal
-/// writes nothing, so the length is compared before the first byte goes in.
+/// writes nothing, so the length is compared before the first byte is written.
 pub fn field(expr: &[u8], table: &[u8], datum: u8, buf: &mut [u8]) -> Result<usize, u8> {
     let value = evaluate(expr, table)?.value;
     if datum > datum::UINT64 {

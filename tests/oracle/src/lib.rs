@@ -3,6 +3,8 @@
 //! It exists to be compared with the product and to be timed against it, so
 //! it is written from the papers alone and prefers the obvious form.
 
+#![forbid(unsafe_code)]
+
 pub mod bytes;
 pub mod expression;
 pub mod field;
@@ -16,5 +18,5 @@ pub mod tree;
 pub use expression::{evaluate, Answer, Kind, Outcome, Value};
 pub use field::field;
 pub use selection::select;
-pub use table::{lookup, well_formed, Setting};
+pub use table::{is_well_formed, lookup, Setting};
 pub use tokens::{scan, Scan, Token};

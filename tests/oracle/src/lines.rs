@@ -32,7 +32,7 @@ pub enum Line<'a> {
     Directive { word: Word, argument: &'a [u8] },
 }
 
-/// What sort of line this is, or refusal 18.
+/// Whether the line is plain or a directive, or refusal 18.
 pub fn sort(line: &[u8]) -> Result<Line<'_>, u8> {
     let [b'!', text @ ..] = skip_blanks(line) else {
         return Ok(Line::Plain);

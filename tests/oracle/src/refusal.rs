@@ -14,7 +14,7 @@ pub const TOKEN_COUNT: u8 = 5;
 pub const DEPTH: u8 = 6;
 /// The tokens form no expression.
 pub const GRAMMAR: u8 = 7;
-/// A `|` or `||` stands outside all parentheses.
+/// A `|` or `||` is outside all parentheses.
 pub const BAR: u8 = 8;
 /// A PCD is named that the table does not hold.
 pub const PCD: u8 = 9;
@@ -24,7 +24,7 @@ pub const KIND: u8 = 10;
 pub const RANGE: u8 = 11;
 /// A division or remainder by 0.
 pub const DIVISOR: u8 = 12;
-/// A condition is something other than the numbers 0 and 1.
+/// A condition is neither 0 nor 1.
 pub const CONDITION: u8 = 13;
 /// The file has more than 65,536 bytes.
 pub const FILE_LENGTH: u8 = 14;

@@ -4,7 +4,7 @@ use crate::bytes::{is_blank, macro_length, skip_blanks};
 use crate::expression::{evaluate_with, Value};
 use crate::lines::{lines, sort, Line, Word};
 use crate::refusal;
-use crate::table::{lookup, well_formed};
+use crate::table::{is_well_formed, lookup};
 
 pub const MAX_FILE: usize = 65_536;
 pub const MAX_LINES: usize = 4_096;
@@ -35,7 +35,7 @@ pub fn select(file: &[u8], table: &[u8], marks: &mut [u8]) -> Selection {
 }
 
 fn run(file: &[u8], table: &[u8], marks: &mut [u8]) -> Selection {
-    if !well_formed(table) {
+    if !is_well_formed(table) {
         return Err((refusal::TABLE, 0));
     }
     if file.len() > MAX_FILE {
@@ -203,7 +203,7 @@ fn branch_mark(read: bool, taken: bool) -> u8 {
     }
 }
 
-/// Blanks and a comment may stand here, and nothing else.
+/// Only blanks and a comment may be here.
 fn check_nothing(text: &[u8]) -> Result<(), u8> {
     match skip_blanks(text) {
         [] | [b'#', ..] => Ok(()),

@@ -15,7 +15,7 @@ const NUMBER: u8 = 0;
 const TEXT: u8 = 1;
 const WIDE: u8 = 2;
 
-/// What a record holds. A string's content is told by its place in the table.
+/// What a record holds. A string is given by its place in the table.
 #[derive(Clone, Copy, Debug, PartialEq, Eq)]
 pub enum Setting {
     Number(u64),
@@ -24,17 +24,17 @@ pub enum Setting {
 }
 
 /// Whether the table keeps all its rules. An empty table does.
-pub fn well_formed(table: &[u8]) -> bool {
+pub fn is_well_formed(table: &[u8]) -> bool {
     let (records, rest) = table.as_chunks::<RECORD>();
     rest.is_empty()
         && records.len() <= MAX_RECORDS
-        && records.iter().all(record_well_formed)
+        && records.iter().all(is_well_formed_record)
         && records
             .windows(2)
             .all(|pair| pair[0][..NAME] < pair[1][..NAME])
 }
 
-fn record_well_formed(record: &[u8; RECORD]) -> bool {
+fn is_well_formed_record(record: &[u8; RECORD]) -> bool {
     let (name, padding) = split_name(record);
     let length = usize::from(record[LENGTH_AT]);
     let length_fits = match record[KIND_AT] {
@@ -59,13 +59,13 @@ fn all_zero(bytes: &[u8]) -> bool {
     bytes.iter().all(|&byte| byte == 0)
 }
 
-/// The setting that stands under this name.
+/// The setting of this name.
 ///
 /// In a malformed table any setting may be found or missed, but a string
 /// still lies inside the table.
 pub fn lookup(table: &[u8], name: &[u8]) -> Option<Setting> {
-    // No record can have such a name. Asking first keeps the padding below
-    // from making `A` and `A` with a zero byte the same.
+    // No record can have such a name. Without this check the padding below
+    // would make `A` and `A` with a zero byte the same.
     if name.is_empty() || name.len() > NAME || name.contains(&0) {
         return None;
     }

@@ -7,7 +7,7 @@ pub const MAX_BYTES: usize = 1024;
 pub const MAX_TOKENS: usize = 200;
 pub const MAX_DEPTH: i64 = 16;
 
-/// The codes of the sorts of token. Two spellings of one operator share one.
+/// The codes of tokens. Two spellings of one operator share one.
 pub mod code {
     pub const NUMBER: u8 = 0;
     pub const TRUTH: u8 = 1;
@@ -39,13 +39,13 @@ pub mod code {
     pub const BIT_OR: u8 = 31;
     pub const AND: u8 = 32;
     pub const XOR: u8 = 33;
-    /// `||`, the only other bar that refusal 8 speaks of
+    /// `||`, which refusal 8 is about, as `|` is
     pub const OR_BARS: u8 = 34;
     /// `OR`, `or`
     pub const OR: u8 = 35;
 }
 
-/// One token: its sort, its place in the expression with all its quotes and
+/// One token: its code, its place in the expression with all its quotes and
 /// brackets, and the value of a number or truth word (0 for the others).
 #[derive(Clone, Copy, Debug, PartialEq, Eq)]
 pub struct Token {
@@ -80,7 +80,7 @@ fn read_all(expr: &[u8], tokens: &mut Vec<Token>) -> Result<(), u8> {
         if rest.is_empty() || rest[0] == b'#' {
             break;
         }
-        // Asked before the token is read: whatever follows token 200 is 5.
+        // Before the token is read: anything after token 200 is 5.
         if tokens.len() == MAX_TOKENS {
             return Err(refusal::TOKEN_COUNT);
         }
@@ -136,7 +136,7 @@ fn read_number(rest: &[u8]) -> Read {
         return Err(refusal::TOKEN);
     }
     // A run that is no number at all is 3, however large its beginning, so
-    // the digits are all looked at before the value is asked for.
+    // all digits are checked before the value is.
     let mut value = Some(0u64);
     for &byte in digits {
         let digit = char::from(byte).to_digit(base).ok_or(refusal::TOKEN)?;
@@ -200,7 +200,7 @@ fn read_macro(rest: &[u8]) -> Read {
 }
 
 fn read_symbol(rest: &[u8]) -> Read {
-    // Longest first: the arms with two bytes stand before those with one.
+    // Longest first: the arms with two bytes come before those with one.
     let (code, len) = match rest {
         [b'<', b'<', ..] => (code::SHIFT_LEFT, 2),
         [b'>', b'>', ..] => (code::SHIFT_RIGHT, 2),

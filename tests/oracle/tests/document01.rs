@@ -5,7 +5,7 @@ mod common;
 use common::*;
 use oracle::table::CONTENT;
 use oracle::tokens::code;
-use oracle::{evaluate, field, lookup, scan, select, well_formed, Setting, Value};
+use oracle::{evaluate, field, is_well_formed, lookup, scan, select, Setting, Value};
 
 #[test]
 fn small_ones_to_prove() {
@@ -63,11 +63,11 @@ fn two_hundred_tokens_and_one_more() {
 #[test]
 fn a_record_of_56_and_57_bytes() {
     let mut record = text("A", &"x".repeat(56));
-    assert!(well_formed(&record));
+    assert!(is_well_formed(&record));
     record[65] = 57;
-    assert!(!well_formed(&record));
+    assert!(!is_well_formed(&record));
     // With a next record there would be bytes to read, and it is still wrong.
-    assert!(!well_formed(&[record, text("B", "")].concat()));
+    assert!(!is_well_formed(&[record, text("B", "")].concat()));
 }
 
 #[test]
@@ -401,18 +401,18 @@ fn values_from_the_table() {
 
 #[test]
 fn table_rules() {
-    assert!(well_formed(&[]));
+    assert!(is_well_formed(&[]));
     let good = number("A", 7);
-    assert!(well_formed(&good));
-    assert!(!well_formed(&good[..127]));
-    assert!(!well_formed(&[&good[..], &[0]].concat()));
-    assert!(!well_formed(&[0; 128]));
+    assert!(is_well_formed(&good));
+    assert!(!is_well_formed(&good[..127]));
+    assert!(!is_well_formed(&[&good[..], &[0]].concat()));
+    assert!(!is_well_formed(&[0; 128]));
 
     // Each byte is changed by itself; only the content may vary freely.
     for place in 0..128 {
         let mut bad = good;
         bad[place] ^= 0x80;
-        assert_eq!(well_formed(&bad), (72..80).contains(&place), "{place}");
+        assert_eq!(is_well_formed(&bad), (72..80).contains(&place), "{place}");
     }
     for kind in 0..=255 {
         for length in 0..=255 {
@@ -423,30 +423,30 @@ fn table_rules() {
                 1 | 2 => length <= 56,
                 _ => false,
             };
-            assert_eq!(well_formed(&record), expected, "{kind} {length}");
+            assert_eq!(is_well_formed(&record), expected, "{kind} {length}");
         }
     }
-    assert!(well_formed(
+    assert!(is_well_formed(
         &[text("A", ""), text("AA", ""), text("B", "")].concat()
     ));
-    assert!(!well_formed(&[text("A", ""), text("A", "x")].concat()));
-    assert!(!well_formed(&[text("B", ""), text("A", "")].concat()));
+    assert!(!is_well_formed(&[text("A", ""), text("A", "x")].concat()));
+    assert!(!is_well_formed(&[text("B", ""), text("A", "")].concat()));
 }
 
 #[test]
 fn table_names() {
     for good in ["A", "Z9_", "a.b", "_._", "A.B", "a_1.c2"] {
-        assert!(well_formed(&text(good, "")), "{good}");
+        assert!(is_well_formed(&text(good, "")), "{good}");
     }
     for bad in [
         "", "a", "_", "1", "_A", "Aa", "A.", ".A", "a.1", "1.a", "a.b.c", "a..b", "A B", "$(A)",
     ] {
-        assert!(!well_formed(&text(bad, "")), "{bad}");
+        assert!(!is_well_formed(&text(bad, "")), "{bad}");
     }
-    assert!(well_formed(&text(&"A".repeat(64), "")));
-    assert!(well_formed(&text(&format!("a.{}", "b".repeat(62)), "")));
-    assert!(!well_formed(&record(b"A\0B", 1, b"")));
-    assert!(!well_formed(&record(b"\xc9.a", 1, b"")));
+    assert!(is_well_formed(&text(&"A".repeat(64), "")));
+    assert!(is_well_formed(&text(&format!("a.{}", "b".repeat(62)), "")));
+    assert!(!is_well_formed(&record(b"A\0B", 1, b"")));
+    assert!(!is_well_formed(&record(b"\xc9.a", 1, b"")));
 }
 
 #[test]
@@ -456,8 +456,8 @@ fn table_size() {
             .flat_map(|index| text(&format!("A{index:03}"), ""))
             .collect()
     };
-    assert!(well_formed(&many(512)));
-    assert!(!well_formed(&many(513)));
+    assert!(is_well_formed(&many(512)));
+    assert!(!is_well_formed(&many(513)));
 }
 
 #[test]
@@ -469,7 +469,7 @@ fn lookups() {
         wide("a.b", ""),
         text(&full, "z"),
     ]);
-    assert!(well_formed(&table));
+    assert!(is_well_formed(&table));
     // In order: A, AAA.., AB, a.b
     assert_eq!(lookup(&table, b"A"), Some(Setting::Number(7)));
     let start = 128 + CONTENT;
@@ -575,7 +575,7 @@ fn seventeen_open_groups() {
 
 #[test]
 fn reading_depends_on_the_branch_around() {
-    // Nothing in a dropped branch is read, whatever sort of group it is in.
+    // Nothing in a dropped branch is read, in any kind of group.
     assert_eq!(
         marks_of("!if 0|!ifdef ?|!elseif @|x|!else y|!endif z|y|!else|z|!endif"),
         Ok((vec![3, 2, 2, 0, 2, 2, 0, 4, 1, 5], 0))
@@ -685,7 +685,7 @@ fn limits_of_a_file() {
     let line = |length| [vec![b'x'; length], b"\r\n".to_vec()].concat();
     assert_eq!(marks_in(&line(1_024), &[]), Ok((vec![1], 0)));
     assert_eq!(marks_in(&line(1_025), &[]), Err((17, 1)));
-    // 17 is asked before the word, and line by line.
+    // 17 is checked before the word, and line by line.
     let bad = [b"!x".to_vec(), line(1_025)].concat();
     assert_eq!(marks_in(&bad, &[]), Err((17, 1)));
     let bad = [b"!x\n".to_vec(), line(1_025)].concat();

@@ -3,7 +3,7 @@
 mod common;
 
 use common::*;
-use oracle::{evaluate, field, scan, select, well_formed, Value};
+use oracle::{evaluate, field, is_well_formed, scan, select, Value};
 
 #[test]
 fn a1_else_and_endif_need_no_blank() {
@@ -70,7 +70,7 @@ fn a7_names_have_no_limit_in_an_expression() {
     // The table holds the first 64 bytes of each name, which must not match.
     let pcd = format!("p.{}", "x".repeat(63));
     let table = table(&[number(&long[..64], 1), number(&pcd[..64], 1)]);
-    assert!(well_formed(&table));
+    assert!(is_well_formed(&table));
     assert_eq!(number_in(&format!("$({long})"), &table), Ok((0, 0)));
     assert_eq!(
         number_in(&format!("$({})", &long[..64]), &table),
@@ -85,7 +85,7 @@ fn a7_names_have_no_limit_in_an_expression() {
 #[test]
 fn a8_a_table_string_may_hold_any_byte() {
     let table = table(&[record(b"A", 1, b"a\0\0"), record(b"B", 2, b"\r\n\"'\xff")]);
-    assert!(well_formed(&table));
+    assert!(is_well_formed(&table));
     let value = |expr: &'static [u8]| evaluate(expr, &table).map(|outcome| outcome.value);
     assert_eq!(value(b"$(A)"), Ok(Value::Text(b"a\0\0")));
     assert_eq!(value(b"$(B)"), Ok(Value::Wide(b"\r\n\"'\xff")));

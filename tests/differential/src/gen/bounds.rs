@@ -53,7 +53,7 @@ fn near_the_line_count(rng: &mut Prng, names: &Names) -> Vec<u8> {
     join(rng, &lines)
 }
 
-/// One line from 2 bytes too short to 2 too long, with any sort of end.
+/// One line from 2 bytes too short to 2 too long, with any end.
 fn near_the_line_length(rng: &mut Prng, names: &Names) -> Vec<u8> {
     let mut lines = nested(rng, names);
     lines.push(b"x".to_vec());

@@ -1,4 +1,4 @@
-//! What stands after a directive's word, and lines put together from it.
+//! What follows a directive's word, and lines made of it.
 
 use super::expressions::damage;
 use super::formulas::{formula, COMPARISONS};
@@ -13,7 +13,7 @@ pub const WORDS: &[&str] = &[
     "if", "if", "ifdef", "ifndef", "elseif", "elif", "else", "endif", "endif", "endif", "include", "error",
 ];
 
-/// What is none of them, or only begins like one.
+/// Words that are none of them, or only begin like one.
 #[rustfmt::skip]
 pub const NEARLY_WORDS: &[&str] = &[
     "", " if", "If", "IF", "ifd", "ifx", "ifde", "ifdefs", "ifndefs", "ifelse", "elsif", "else if", "elseiff",
@@ -110,7 +110,7 @@ pub fn name(rng: &mut Prng, names: &Names) -> Vec<u8> {
         5 => [&names.pick(rng, kind)[..], b"A"].concat(),
         _ => names.pick(rng, kind),
     };
-    // A PCD is no macro, so its first run is asked for, but for a few.
+    // A PCD is no macro, so mostly only its first run is used.
     let name = match name.iter().position(|&byte| byte == b'.') {
         Some(dot) if !rng.one_in(20) => name[..dot].to_ascii_uppercase(),
         _ => name,

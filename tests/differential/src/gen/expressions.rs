@@ -4,7 +4,7 @@ use super::lexemes::{BAD_TAILS, GOOD, NAMED, NEARLY, STRAYS, SYMBOLS, TAILS};
 use super::names::{macro_name, pcd_name, NUMBERS, TEXTS, WIDES};
 use crate::prng::Prng;
 
-/// Any sort of expression.
+/// Any expression.
 pub fn any(rng: &mut Prng) -> Vec<u8> {
     let mut expr = match rng.below(12) {
         0 => random_bytes(rng),
@@ -42,7 +42,7 @@ fn soup(rng: &mut Prng) -> Vec<u8> {
         0 => rng.between(150, 220),
         _ => rng.below(25),
     };
-    // Some soups are all good, so that long ones are read to their end.
+    // Some have good tokens only, so that long ones are read to their end.
     let bad_one_in = rng.pick(&[4, 20, 60, 1_000_000]);
     let pieces: Vec<Vec<u8>> = (0..len)
         .map(|_| {
@@ -321,7 +321,7 @@ fn near_the_token_count(rng: &mut Prng) -> Vec<u8> {
     expr
 }
 
-/// 15 to 18 pairs, not always closed, sometimes round a macro.
+/// 15 to 18 pairs, not always closed, sometimes around a macro.
 fn near_the_depth(rng: &mut Prng) -> Vec<u8> {
     let open = rng.between(15, 18);
     let close = match rng.below(3) {
@@ -372,7 +372,7 @@ fn near_the_largest_literal(rng: &mut Prng) -> Vec<u8> {
     format!("{before}{literal}{after}").into_bytes()
 }
 
-/// Macro and PCD names round the 64 bytes that a record has for a name.
+/// Macro and PCD names of about 64 bytes, as many as a record has for a name.
 fn near_the_longest_name(rng: &mut Prng) -> Vec<u8> {
     let len = rng.pick(&[62, 63, 64, 65, 66, 67, 128, 129, 255, 256, 257]);
     let name = match rng.below(2) {

@@ -103,7 +103,7 @@ fn choices_in_the_middle(rng: &mut Prng) -> Vec<u8> {
     expr.into_bytes()
 }
 
-/// A formula in so many parentheses that 16 are reached or passed.
+/// A formula in about 16 parentheses, some of them one too many.
 fn deep(rng: &mut Prng, names: &Names) -> Vec<u8> {
     let pairs = rng.between(11, 17);
     let inner = formula(rng, names, None);

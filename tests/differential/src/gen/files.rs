@@ -7,7 +7,7 @@ use super::settings::Names;
 use super::twins::spoil;
 use crate::prng::Prng;
 
-/// Any sort of file.
+/// Any file.
 pub fn any(rng: &mut Prng, names: &Names, table: &[u8]) -> Vec<u8> {
     match rng.below(24) {
         0 => random_bytes(rng),
@@ -44,7 +44,7 @@ pub fn good(rng: &mut Prng, names: &Names) -> Vec<u8> {
 /// How a line can end. Only the first two are the ends of lines.
 const ENDS: &[&[u8]] = &[b"\n", b"\r\n", b"\r\r\n", b"\r", b"\n\r"];
 
-/// The lines with ends, all of one sort or not.
+/// The lines with ends, all equal or not.
 pub fn join(rng: &mut Prng, lines: &[Vec<u8>]) -> Vec<u8> {
     let sort = rng.below(8);
     let mut file = Vec::new();
@@ -81,7 +81,7 @@ fn soup(rng: &mut Prng, names: &Names) -> Vec<u8> {
         0 => rng.between(40, 200),
         _ => rng.below(16),
     };
-    // Some soups have good words only, so that they are read further.
+    // Some have good words only, so that they are read further.
     let bad_one_in = rng.pick(&[4, 12, 1_000_000]);
     let lines: Vec<Vec<u8>> = (0..len).map(|_| any_line(rng, names, bad_one_in)).collect();
     join(rng, &lines)

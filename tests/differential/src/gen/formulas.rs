@@ -1,6 +1,6 @@
 //! Expressions that mostly have a value: operands of the kinds that their
 //! operators take, small numbers, short strings, and no more parentheses than
-//! the precedence of document 01 asks for, but for a few.
+//! the precedence of document 01 needs, except a few.
 
 use super::expressions::join_well;
 use super::numbers::edge;
@@ -12,7 +12,7 @@ const CHOICE: u8 = 13;
 const BINARY: u8 = 12;
 
 /// Binary operators that take numbers, with their levels. The likelier ones
-/// stand here more than once.
+/// are here more than once.
 #[rustfmt::skip]
 pub const NUMERIC: [(&str, u8); 22] = [
     ("*", 2), ("/", 2), ("%", 2), ("+", 3), ("+", 3), ("-", 3), ("<<", 4), (">>", 4), ("&", 7), ("^", 8),
@@ -28,7 +28,7 @@ pub const COMPARISONS: [(&str, u8); 12] = [
 
 const UNARY: [&str; 7] = ["!", "NOT", "not", "~", "+", "-", "!"];
 
-/// An expression of this kind, or of any if none is said.
+/// An expression of this kind, or of any if none is given.
 pub fn formula(rng: &mut Prng, names: &Names, kind: Option<Kind>) -> Vec<u8> {
     let size = match rng.below(20) {
         0 => rng.between(40, 110),
@@ -77,7 +77,7 @@ impl Writer<'_> {
     }
 
     /// Writes what `inside` writes, which has the given level, in parentheses
-    /// if the place asks for a tighter one.
+    /// if the place needs a tighter one.
     fn at_level(&mut self, level: u8, loosest: u8, inside: impl FnOnce(&mut Self)) {
         let wrapped = level > loosest || self.rng.one_in(10);
         if wrapped {

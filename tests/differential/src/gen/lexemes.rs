@@ -16,7 +16,7 @@ pub const GOOD: &[&[u8]] = &[
     b"OR", b"or",
 ];
 
-/// Spellings that are nearly tokens, or tokens with something awkward behind.
+/// Spellings that are nearly tokens, or tokens with something wrong after them.
 #[rustfmt::skip]
 pub const NEARLY: &[&[u8]] = &[
     b"00", b"007", b"0x", b"0X", b"0xg", b"0x1g", b"0b1", b"1a", b"1_", b"12L", b"0_", b"1x0",
@@ -40,7 +40,7 @@ pub const STRAYS: &[u8] = b"@\\`{},;[]=.\r\n\x00\x0b\x0c\x7f\x80\xa0\xff";
 
 pub const SYMBOLS: &[u8] = b"()?:!~+-*/%<>=&^|";
 
-/// What may stand after the last token without being one.
+/// What may follow the last token without being one.
 pub const TAILS: &[&[u8]] = &[b"", b" ", b"\t \t", b"#", b" # @ \" $(", b"#\r\n\xff"];
 
 /// What may not.

@@ -60,7 +60,7 @@ pub fn known(rng: &mut Prng) -> Vec<u8> {
         .collect()
 }
 
-/// The names of a table, by the kinds of what stands under them.
+/// The names of a table, by the kinds of their values.
 pub struct Names {
     by_kind: [Vec<Vec<u8>>; 3],
 }

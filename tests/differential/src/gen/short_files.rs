@@ -1,8 +1,8 @@
-//! Every short file of some sorts.
+//! All short files of some forms.
 
 use super::directives::{NEARLY_WORDS, RUBBISH, WORDS};
 
-/// Lines of all sorts that matter to one another.
+/// Lines of every form that affects other lines.
 const LINES: [&str; 14] = [
     "x",
     "!if 0",
@@ -20,7 +20,7 @@ const LINES: [&str; 14] = [
     "!foo",
 ];
 
-/// Those of them that open, part and close groups.
+/// Those of them that open, divide and close groups.
 const BARE: [&str; 6] = ["!if 0", "!if 1", "!elif 1", "!else", "!endif", "x"];
 
 pub fn all() -> Vec<Vec<u8>> {
@@ -32,11 +32,11 @@ pub fn all() -> Vec<Vec<u8>> {
     files
 }
 
-/// Every list of up to `most` of these lines.
-fn lists(lines: &[&str], most: usize) -> Vec<Vec<u8>> {
+/// Every list of up to `max` of these lines.
+fn lists(lines: &[&str], max: usize) -> Vec<Vec<u8>> {
     let mut files = vec![Vec::new()];
     let mut from = 0;
-    for _ in 0..most {
+    for _ in 0..max {
         let to = files.len();
         for place in from..to {
             for line in lines {

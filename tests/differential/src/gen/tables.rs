@@ -41,7 +41,7 @@ pub fn valid(rng: &mut Prng) -> Vec<u8> {
 
 fn name(rng: &mut Prng) -> Vec<u8> {
     // Short names are made of few letters and the longest differ only near
-    // their end, so that many begin alike.
+    // their end, so that many have a common beginning.
     let short = rng.between(3, 6);
     let any = rng.between(3, NAME);
     match rng.below(9) {
@@ -102,7 +102,7 @@ const BAD_NAMES: &[&[u8]] = &[
 /// A table and what was done to it.
 pub type Damaged = (&'static str, Vec<u8>);
 
-/// The table with each sort of damage, in a place chosen at random. A few of
+/// The table with each kind of damage, in a place chosen at random. A few of
 /// these may still be well formed; the oracle says which.
 pub fn damaged(rng: &mut Prng, table: &[u8]) -> Vec<Damaged> {
     let mut all = Vec::new();

@@ -1,5 +1,5 @@
-//! A second file and table beside a first, which keep the terms of demand 3:
-//! whatever an accepted run does not read may be anything.
+//! A second file and table for a first, as demand 3 allows them: they differ
+//! in what an accepted run does not read.
 
 use std::collections::{BTreeMap, BTreeSet};
 

@@ -7,7 +7,7 @@ use super::numbers::EDGES;
 use super::settings::Names;
 use crate::prng::Prng;
 
-/// Any sort of expression, most of them with a value.
+/// Any expression; most have a value.
 pub fn any(rng: &mut Prng, names: &Names) -> Vec<u8> {
     match rng.below(12) {
         0 | 1 => expressions::any(rng),
@@ -21,14 +21,14 @@ pub fn any(rng: &mut Prng, names: &Names) -> Vec<u8> {
     }
 }
 
-/// Tokens that stand for all the sorts that a derivation tells apart.
+/// One token of every class that the grammar distinguishes.
 #[rustfmt::skip]
 const SORTS: [&str; 19] = [
     "0", "1", "'a'", "L'a'", "-", "!", "*", "<<", "<", "==", "&", "|", "AND", "XOR", "OR", "?", ":",
     "(", ")",
 ];
 
-/// Every list of up to four tokens, alone and with a `)` behind it, since
+/// Every list of up to four tokens, alone and with a `)` after it, since
 /// bars need a pair.
 pub fn short_lists() -> Vec<Vec<u8>> {
     let mut lists = vec![String::new()];
@@ -97,8 +97,8 @@ pub fn neighbours() -> Vec<Vec<u8>> {
     all.into_iter().map(String::into_bytes).collect()
 }
 
-/// Every choice between two strings, equal ones too, of which each place has
-/// to be told: in the expression or in a table with these four names.
+/// Every choice between two strings, equal ones too, so that the place of each
+/// is compared: in the expression or in a table with these four names.
 pub fn choices() -> Vec<Vec<u8>> {
     let strings = [
         "'ab'", "\"ab\"", "''", "L'ab'", "L''", "$(E)", "$(F)", "$(S)", "$(W)",

@@ -1,6 +1,7 @@
 //! What --help prints.
 
-use crate::subcommand::{Subcommand, SUBCOMMANDS, USAGE};
+use super::subcommand::Subcommand;
+use super::{SUBCOMMANDS, USAGE};
 
 const ABOUT: &str =
     "Reads the conditional language of EDK II description files. The decisions are made by proved code.";
@@ -17,9 +18,9 @@ example: target/korzhinay select -s examples/buoy.settings --annotate examples/w
 
 /// The help of the command.
 pub fn overview() -> String {
-    let row = |one: &Subcommand| format!("  {:<9}  {}\n", one.name, one.summary);
+    let row = |one: &&Subcommand| format!("  {:<9}  {}\n", one.name, one.summary);
     let rows: String = SUBCOMMANDS.iter().map(row).collect();
-    format!("usage: {USAGE}\n\n{ABOUT}\n\n{rows}{REST}")
+    format!("usage: korzhinay {USAGE}\n\n{ABOUT}\n\n{rows}{REST}")
 }
 
 /// The help of a subcommand.
@@ -33,8 +34,8 @@ pub fn of(subcommand: &Subcommand) -> String {
     } = subcommand;
     let row = |option: String, about| format!("  {option:<15}  {about}\n");
     let rows: String = subcommand
-        .choices()
-        .map(|choice| row(format!("{} {}", choice.word, choice.value), choice.about))
+        .options()
+        .map(|option| row(format!("{} {}", option.word, option.value), option.about))
         .collect();
     format!("usage: korzhinay {name} {usage}\n\n{about}\n\n{rows}\nexample: {example}\n")
 }

@@ -1,4 +1,4 @@
-//! Numbers of the library in words, and datum types in numbers.
+//! Refusal numbers in words.
 
 /// What a refusal number means.
 pub fn refusal(number: u8) -> &'static str {
@@ -31,32 +31,4 @@ pub fn refusal(number: u8) -> &'static str {
         26 => "the buffer is shorter than the field",
         _ => "unknown refusal",
     }
-}
-
-/// What a token's code means.
-pub fn code(code: u8) -> &'static str {
-    match code {
-        0 => "number",
-        1 => "truth word",
-        2 => "string",
-        3 => "wide string",
-        4 => "macro",
-        5 => "PCD",
-        10 | 11 => "parenthesis",
-        12 | 13 => "choice",
-        _ => "operator",
-    }
-}
-
-/// The datum code of a type.
-pub fn datum(name: &[u8]) -> Option<u8> {
-    Some(match name {
-        b"VOID*" => 0,
-        b"BOOLEAN" => 1,
-        b"UINT8" => 2,
-        b"UINT16" => 3,
-        b"UINT32" => 4,
-        b"UINT64" => 5,
-        _ => return None,
-    })
 }

@@ -1,4 +1,4 @@
-//! What a run reads and writes.
+//! The files that a run reads and writes; `-` is standard input or output.
 
 use std::ffi::OsStr;
 use std::fs::{self, File};
@@ -7,33 +7,34 @@ use std::os::unix::ffi::OsStrExt;
 use std::path::Path;
 use std::process;
 
-use crate::outcome::Stop;
-use crate::shown::shown;
-use crate::streams;
+use super::error::Error;
+use super::escaping::escaped;
+use super::streams;
+use crate::library::limit;
 
-/// One byte more than a description file or a table may have: enough for the library to refuse it, and no endless input hangs.
-const MOST_READ: usize = 65_536 + 1;
+/// One byte more than a description file or a table may have, so that the library refuses it and an endless input ends.
+const MAX_READ: usize = limit::MAX_FILE_BYTES + 1;
 
-/// The bytes of a description file or a table; `-` is standard input.
-pub fn read(file: &[u8]) -> Result<Vec<u8>, Stop> {
-    read_at_most(file, MOST_READ)
+/// The bytes of a description file or a table.
+pub fn read(file: &[u8]) -> Result<Vec<u8>, Error> {
+    read_at_most(file, MAX_READ)
 }
 
-/// The first bytes of a file, `most` of them if it has so many.
-pub fn read_at_most(file: &[u8], most: usize) -> Result<Vec<u8>, Stop> {
+/// The first `max` bytes of a file, or all if it has fewer.
+pub fn read_at_most(file: &[u8], max: usize) -> Result<Vec<u8>, Error> {
     let opened = match file {
         b"-" => streams::input(),
         _ => File::open(OsStr::from_bytes(file)),
     };
     let mut bytes = Vec::new();
     opened
-        .and_then(|open| open.take(most as u64).read_to_end(&mut bytes))
+        .and_then(|open| open.take(max as u64).read_to_end(&mut bytes))
         .map_err(|error| failed(file, error))?;
     Ok(bytes)
 }
 
-/// Writes a file; `-` is standard output.
-pub fn write(file: &[u8], bytes: &[u8]) -> Result<(), Stop> {
+/// Writes a file.
+pub fn write(file: &[u8], bytes: &[u8]) -> Result<(), Error> {
     if file == b"-" {
         return print(bytes);
     }
@@ -45,9 +46,9 @@ pub fn write(file: &[u8], bytes: &[u8]) -> Result<(), Stop> {
     written.map_err(|error| failed(file, error))
 }
 
-/// Puts a new file into the place of another, or leaves that as it is: a table that was cut off could pass for a whole one.
+/// Replaces a file as a whole or leaves it as it is: a table that was cut off could pass for a whole one.
 fn replace(path: &Path, bytes: &[u8]) -> io::Result<()> {
-    // What a link points to is replaced, not the link.
+    // The target of a link is replaced, not the link.
     let path = &fs::canonicalize(path).unwrap_or_else(|_| path.into());
     let mut name = path.as_os_str().to_owned();
     name.push(format!(".{}", process::id()));
@@ -55,7 +56,7 @@ fn replace(path: &Path, bytes: &[u8]) -> io::Result<()> {
     let file = File::create_new(fresh)?;
     let outcome = fill(file, bytes, path).and_then(|()| fs::rename(fresh, path));
     if outcome.is_err() {
-        // What is left of it is of no use, and the error that is told is the first one.
+        // The first error is the one to report.
         let _ = fs::remove_file(fresh);
     }
     outcome
@@ -70,14 +71,15 @@ fn fill(mut file: File, bytes: &[u8], old: &Path) -> io::Result<()> {
     }
 }
 
-pub fn print(text: &[u8]) -> Result<(), Stop> {
+/// Writes to standard output.
+pub fn print(text: &[u8]) -> Result<(), Error> {
     let written = streams::output().and_then(|mut output| output.write_all(text));
     written.map_err(|error| match error.kind() {
-        ErrorKind::BrokenPipe => Stop::Unread,
+        ErrorKind::BrokenPipe => Error::BrokenPipe,
         _ => failed(b"standard output", error),
     })
 }
 
-fn failed(file: &[u8], error: io::Error) -> Stop {
-    Stop::Failed(format!("{}: {error}", shown(file)))
+fn failed(file: &[u8], error: io::Error) -> Error {
+    Error::Failed(format!("{}: {error}", escaped(file)))
 }

@@ -1,5 +1,5 @@
-//! Standard input and output as files. Rust's own handles take a stream that cannot be used for an empty one, or for one that takes
-//! everything, and what a run misses so it would miss without a word.
+//! Standard input and output as files. Rust's own handles take a closed standard input for an empty one, and a closed standard output
+//! for one that accepts everything, without an error.
 
 use std::fs::File;
 use std::io::{self, Error};
@@ -9,7 +9,7 @@ use std::sync::atomic::{AtomicBool, Ordering};
 const INPUT: usize = 0;
 const OUTPUT: usize = 1;
 
-/// Whether a stream was closed when the process started. Rust's start-up puts /dev/null into its place, so this is asked before.
+/// Whether a stream was closed when the process started. Rust's start-up opens /dev/null in its place, so this is found out before.
 static CLOSED: [AtomicBool; 2] = [AtomicBool::new(false), AtomicBool::new(false)];
 
 extern "C" {
@@ -22,13 +22,15 @@ const BAD_DESCRIPTOR: i32 = 9;
 
 extern "C" fn note_closed() {
     for (descriptor, closed) in (0..).zip(&CLOSED) {
-        // SAFETY: the call reads the flags of a descriptor, whatever number it has.
+        // SAFETY: fcntl with F_GETFD takes no third argument, reads and writes no memory of this process, and answers -1 for a
+        // descriptor that is not open.
         let flags = unsafe { fcntl(descriptor, GET_FLAGS) };
         closed.store(flags == -1, Ordering::Relaxed);
     }
 }
 
-/// The C library calls what stands here before it calls `main`.
+/// The C library calls the functions of this section before `main`. `note_closed` uses nothing that Rust's start-up prepares, and it
+/// does not unwind.
 #[used]
 #[link_section = ".init_array"]
 static NOTE_CLOSED: extern "C" fn() = note_closed;

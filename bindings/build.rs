@@ -1,4 +1,4 @@
-//! Links the archive that lies in the folder named by KORZHINAY_LIB_DIR. The benchmark and the differential tests are built with this too.
+//! Links libkorzhinay.a from the folder that KORZHINAY_LIB_DIR names. Every package that depends on this one gets it linked.
 
 use std::env;
 use std::path::Path;

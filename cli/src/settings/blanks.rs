@@ -1,4 +1,4 @@
-//! What is left out of a setting's text: a comment, and blanks round it.
+//! What does not belong to a setting: a comment, and blanks at both ends.
 
 /// The text before a comment, and whether there is one: it starts at the first `#` outside quotes.
 pub fn split_comment(text: &[u8]) -> (&[u8], bool) {
@@ -15,15 +15,15 @@ pub fn split_comment(text: &[u8]) -> (&[u8], bool) {
     (text, false)
 }
 
-/// A text without the blanks round it.
+/// A text without the blanks at both ends.
 pub fn trim(text: &[u8]) -> &[u8] {
-    let blank = |byte: &u8| matches!(byte, b' ' | b'\t');
-    let Some(start) = text.iter().position(|byte| !blank(byte)) else {
+    let is_blank = |byte: &u8| matches!(byte, b' ' | b'\t');
+    let Some(start) = text.iter().position(|byte| !is_blank(byte)) else {
         return b"";
     };
     let end = text
         .iter()
-        .rposition(|byte| !blank(byte))
+        .rposition(|byte| !is_blank(byte))
         .map_or(start, |last| last + 1);
     &text[start..end]
 }

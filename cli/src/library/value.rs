@@ -1,0 +1,8 @@
+//! The values of expressions and settings.
+
+/// A value; a string's bytes are those of the expression or the table.
+pub enum Value<'a> {
+    Number(u64),
+    String(&'a [u8]),
+    Wide(&'a [u8]),
+}
