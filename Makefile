@@ -1,55 +1,108 @@
-# make              the static and the shared library and the command
-# make run          the main job on an example, written wrongly and rightly
-# make test         the gate: proofs, must-fail edits, tests (what .ci/run runs)
-# make documents    runs every example of the manual and the README
-# make corpus       what is said of every description file in the folder DIR, under the file SETTINGS if there is one
-# make bench        speed beside the independent Rust implementation, and beside unifdef and cpp where they are installed
-# make instructions instructions of single calls, by valgrind, which has to be installed
-# make fuzz         differential tests for SECONDS seconds (default 60)
-# make clean        removes everything that was made
+# make                        the static and the shared library and the command
+# make run                    the main job on an example, written wrongly and rightly
+# make quick                  before a commit: layout, lints, proofs (what did not change is not proved again), tests
+# make test                   the gate: proofs from nothing, must-fail edits, tests (what .ci/run runs); RT_JOBS=N checks at a time
+# make check [CRATE=..]       proofs of all crates, or of one and those below it; what did not change is not proved again
+# make must-fail CRATE=..     the must-fail edits of one crate; EDIT=.. for one of them
+# make fmt                    puts all sources into their layout
+# make lint                   layout and lints: Rattle, Rust, shell
+# make house [NAME=..]        what can be told of the sources as text: crates.txt, the page of promises
+# make vectors [NAME=..]      vectors; NAME is a part, as value, or one vector, as value:7 or 'value:1 << 64'
+# make command [CASE=..]      cases of the command; CASE is a folder of tests/command/cases
+# make documents [NAME=..]    examples of the manual and the README; NAME is a place, as README.md:9, a section or a part
+# make corpus                 what is said of every description file in the folder DIR, under the file SETTINGS if there is one
+# make bench                  speed beside the independent Rust implementation, and beside unifdef and cpp where they are installed
+# make instructions           instructions of single calls, by valgrind, which has to be installed
+# make fuzz                   differential tests for SECONDS seconds (default 60)
+# make clean                  removes everything that was made
+# make help                   prints this
 
+SHELL := bash
+.SHELLFLAGS := -o pipefail -c
 SECONDS ?= 60
 DIR ?= tests/corpus/files
 LIB := target/staticlib/libkorzhinay.a
-SOURCES := crates.txt $(shell find crates -type f)
-CARGO := CARGO_TARGET_DIR=$(CURDIR)/target/cargo KORZHINAY_LIB_DIR=$(CURDIR)/target/staticlib cargo
+PROVED := crates.txt $(shell find crates -type f -not -path '*/must-fail/*')
+# What the library is made of: the crates on which the one with the calls depends.
+LAYERS := $(shell sed -n 's/\#.*//; s/^korzhinay://p' crates.txt)
+COMMAND := $(shell find cli bindings -type f -not -path '*/target/*' 2>/dev/null)
+PACKAGES := $(shell find . -name Cargo.toml -not -path '*/target/*')
+CARGO := CARGO_TARGET_DIR="$(CURDIR)/target/cargo" KORZHINAY_LIB_DIR="$(CURDIR)/target/staticlib" cargo
 
-.PHONY: all run test documents corpus bench instructions fuzz clean
+# Runs `rt` and shows its own lines only: $(1) names the file in target/log/ that everything goes to, $(2) is the command.
+rt = @mkdir -p target/log; { { $(2); } 2>&1 | tee target/log/$(1).txt | sed -un '/ (unchanged since it was last proved)$$/d; s/^rt: //p'; } || \
+	{ tail -n 40 target/log/$(1).txt; echo "FAILED: target/log/$(1).txt has everything that was printed"; exit 1; }
+# The value of a variable as a word, if it was given to make itself.
+given = $(if $(filter command,$(origin $(1))),"$$$(1)")
+
+.NOTPARALLEL:
+.PHONY: all run quick test check must-fail fmt lint house vectors command documents corpus bench instructions fuzz clean help
 
 all: target/libkorzhinay.so target/korzhinay
 
-$(LIB): $(SOURCES)
-	rt staticlib korzhinay
-	touch $@
+$(LIB): $(PROVED)
+	@echo "Proving the library's crates: 4 to 6 minutes on two cores if nothing is proved yet"
+	$(call rt,library,rt check $(LAYERS) && rt staticlib korzhinay)
+	@touch $@
 
 target/libkorzhinay.so: $(LIB)
-	gcc -shared -o $@ -Wl,--whole-archive $(LIB) -Wl,--no-whole-archive
+	@gcc -shared -o $@ -Wl,--whole-archive $(LIB) -Wl,--no-whole-archive
 
-target/korzhinay: $(LIB) $(wildcard cli/*.toml cli/*.rs cli/src/*.rs)
-	cd cli && $(CARGO) build --offline --release --quiet
-	cp target/cargo/release/korzhinay $@
+target/korzhinay: $(LIB) $(COMMAND)
+	@echo "Building the command"
+	@cd cli && $(CARGO) build --offline --release --quiet
+	@cp target/cargo/release/korzhinay $@
 
 run: all
 	target/korzhinay select -s examples/buoy.settings --annotate examples/window-wrong.dsc
 	target/korzhinay select -s examples/buoy.settings --annotate examples/window-right.dsc
 
+quick: lint house check all vectors command documents
+
 test:
 	.ci/run
 
+check:
+	$(call rt,check,rt check $(CRATE))
+
+must-fail:
+	@[ -n "$(CRATE)" ] || { echo "make must-fail CRATE=.. [EDIT=..]"; exit 2; }
+	@python3 tests/must_fail.py $(CRATE) $(EDIT)
+
+fmt:
+	rt fmt
+	for package in $(PACKAGES); do cargo fmt --manifest-path "$$package" || exit 1; done
+
+lint:
+	rt fmt --check
+	python3 tests/lint.py
+
+house:
+	python3 tests/house/run.py $(call given,NAME)
+
+vectors: all
+	python3 tests/vectors/run.py $(call given,NAME)
+
+command: all
+	python3 tests/command/run.py $(call given,CASE)
+
 documents: all
-	python3 tests/documents/run.py
+	python3 tests/documents/run.py $(call given,NAME)
 
 corpus: target/korzhinay
 	python3 tests/corpus/run.py "$(DIR)" $(if $(SETTINGS),-s "$(SETTINGS)")
 
 bench: $(LIB) target/korzhinay
-	cd bench && $(CARGO) run --offline --release --quiet -- $(CURDIR)/target/korzhinay
+	cd bench && $(CARGO) run --offline --release --quiet -- "$(CURDIR)/target/korzhinay"
 
 instructions: $(LIB)
-	cd bench && $(CARGO) run --offline --release --quiet -- --instructions $(CURDIR)/target/instructions
+	cd bench && $(CARGO) run --offline --release --quiet -- --instructions "$(CURDIR)/target/instructions"
 
 fuzz: $(LIB)
 	cd tests/differential && $(CARGO) run --offline --release --quiet -- --seed $$(date +%s) --seconds $(SECONDS)
 
 clean:
 	rm -rf target
+
+help:
+	@sed -n '/^$$/q; s/^# //p' Makefile

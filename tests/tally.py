@@ -1,7 +1,28 @@
-"""Counts what passed and what failed; every runner in Python ends with the line that the gate counts."""
+"""Counts what passed and what failed; every runner in Python ends with the line that the gate counts.
+
+Words after a runner's name choose what it runs: a check by its name, or all checks of a group. `--list` prints the names and runs
+nothing. A word that is the name of nothing is an error."""
 import sys
 
 passed = failed = 0
+words, unmet, listing = [], set(), False
+
+
+def choose(arguments):
+    """Takes the words that a runner was given."""
+    global words, unmet, listing
+    listing = arguments == ["--list"]
+    words = [] if listing else arguments
+    unmet = set(words)
+
+
+def chosen(name, *groups):
+    """Whether a check is run that has this name and belongs to these groups."""
+    if listing:
+        print(name)
+        return False
+    unmet.difference_update((name, *groups))
+    return not words or any(each in words for each in (name, *groups))
 
 
 def check(what, got, wanted):
@@ -14,5 +35,8 @@ def check(what, got, wanted):
 
 
 def end():
-    print("%d passed, %d failed" % (passed, failed))
+    if unmet:
+        sys.exit("\n".join("nothing has the name %r; --list shows the names" % word for word in sorted(unmet)))
+    if not listing:
+        print("%d passed, %d failed" % (passed, failed))
     sys.exit(1 if failed else 0)

@@ -9,6 +9,7 @@ import tempfile
 import tty
 
 from command import HERE, run
+from tally import chosen
 
 
 def content(*path):
@@ -67,6 +68,8 @@ def outcome(case, arguments):
 
 def checks():
     for name in sorted(os.listdir(os.path.join(HERE, "cases"))):
+        if not chosen(name, "cases"):
+            continue
         case = os.path.join(HERE, "cases", name)
         with tempfile.TemporaryDirectory() as folder:
             written = os.path.join(folder, "written")

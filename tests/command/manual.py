@@ -6,6 +6,7 @@ import tempfile
 
 from command import COMMAND, ROOT, SECONDS, answer
 from meanings import meanings
+from tally import chosen
 
 OPTION = re.compile(r"(?<![\w-])(--[a-z]+|-[a-zA-Z])(?![\w-])")
 SUBCOMMANDS = ["select", "eval", "field", "tokens", "table"]
@@ -65,4 +66,5 @@ def version():
 
 def checks():
     for part in (options_of_helps, refusals, examples, version):
-        yield from part()
+        if chosen("manual_" + part.__name__, "manual"):
+            yield from part()

@@ -1,17 +1,17 @@
-"""Runs every example of the manual and the README, holds the manual's tables against the product, and what the page of promises counts
-against the crates. The last line says how many passed and how many failed."""
-import collections
+"""Runs every example of the manual and the README, and holds the manual's tables against the product: run.py [NAME]... A name is an
+example's place, as `README.md:9`, a document, a section's heading, or a part (limits, tokens, precedence, kinds, values, lines, records,
+fields, smallest, readings, refusals). What can be told of the documents without the product is in tests/house. The last line says how many passed
+and how many failed."""
 import os
 import sys
 
-# The tally, the library's calls and the command's meanings stand beside this folder.
+# The tally, the library's calls and the command's meanings are in the folder above.
 sys.path.insert(0, os.path.join(os.path.dirname(os.path.abspath(__file__)), ".."))
 import fields
 import kinds
 import limits
 import lines
 import precedence
-import promises
 import readings
 import records
 import refusals
@@ -20,23 +20,20 @@ import tokens
 import values
 from manual import MANUAL, sections
 from sessions import examples, run
-from tally import check, end
+from tally import check, choose, chosen, end
 
 README = "README.md"
+PARTS = [limits, tokens, precedence, kinds, values, lines, records, fields, smallest, readings]
 
 
 def check_examples(document):
-    """Runs the examples; what each section's commands printed."""
-    printed = collections.defaultdict(str)
-    found = examples(document)
+    """Runs the examples of a document."""
+    found = [each for each in examples(document) if chosen(each.place, document, each.section)]
     for example in found:
-        got = run(example.command)
-        printed[example.section] += got
         wanted = example.wanted or "some output, or a status: a command without either shows nothing"
-        check("%s: %s" % (example.place, example.command), got, wanted)
-    print("%s: %d examples" % (document, len(found)))
-    return printed
-
+        check("%s: %s" % (example.place, example.command), run(example.command), wanted)
+    if found:
+        print("%s: %d examples" % (document, len(found)))
 
 def check_sections():
     """The manual has an example in every section; of the README it is said which sections have none."""
@@ -46,12 +43,26 @@ def check_sections():
     print("not tested, as without examples, in %s: %s" % (README, "; ".join(s for s in sections(README) if s not in tested)))
 
 
-printed = check_examples(MANUAL)
-check_examples(README)
-check_sections()
-for part in limits, tokens, precedence, kinds, values, lines, records, fields, smallest, promises, readings:
-    for what, got, wanted in part.checks():
-        check("%s, %s" % (part.__name__, what), got, wanted)
-for what, got, wanted in refusals.checks(printed["Refusals"]):
-    check("refusals, " + what, got, wanted)
-end()
+def check_refusals():
+    """The table of refusals, with what the examples of its section print."""
+    printed = "".join(run(example.command) for example in examples(MANUAL) if example.section == "Refusals")
+    for what, got, wanted in refusals.checks(printed):
+        check("refusals, " + what, got, wanted)
+
+
+def main():
+    choose(sys.argv[1:])
+    check_examples(MANUAL)
+    check_examples(README)
+    if chosen("sections"):
+        check_sections()
+    for part in PARTS:
+        if chosen(part.__name__):
+            for what, got, wanted in part.checks():
+                check("%s, %s" % (part.__name__, what), got, wanted)
+    if chosen("refusals"):
+        check_refusals()
+    end()
+
+
+main()

@@ -1,6 +1,10 @@
-"""Runs the vectors against the shared library. The last line says how many passed and how many failed."""
+"""Runs the vectors against the shared library: run.py [NAME]... A vector's name is its part and its number, as `value:7`, or its part
+and its input, as `value:1 << 64`; a part alone (tokens, places, table, lookup, malformed, value, field, selection) is all of it. The
+last line says how many passed and how many failed."""
+import collections
 import os
 import sys
+from functools import partial
 
 import evaluation
 import field
@@ -10,35 +14,54 @@ import tokens
 
 sys.path.insert(0, os.path.join(os.path.dirname(os.path.abspath(__file__)), ".."))
 import library
-from tally import check, end
+from tally import check, choose, chosen, end
 
-for expression, refusal, read in tokens.VECTORS:
-    check("tokens of %r" % expression, library.tokens(expression), (refusal, tokens.expected(read, expression)))
-for expression, places in tokens.PLACES:
-    check("places in %r" % expression, [token[1] for token in library.tokens(expression)[1]], places)
-for number, (table, good) in enumerate(tables.TABLES):
-    check("table %d" % number, library.table(table), 0 if good else 1)
-for number, (table, name, found) in enumerate(tables.LOOKUPS):
-    check("lookup %d of %r" % (number, name), library.lookup(table, name), (0, found))
-for number, (table, good) in enumerate(tables.TABLES):
-    if not good:
-        check("lookup in malformed table %d" % number, library.lookup(table, b"A"), (1, (library.VALUE,) * 3))
-for expression, table, wanted in evaluation.VECTORS:
-    check("value of %r" % expression, library.evaluate(expression, table), wanted)
-for expression, table, datum, room, wanted in field.VECTORS:
-    what = "field of %r, datum %d, %d bytes of room" % (expression, datum, room)
+
+def field_answer(wanted, room):
+    """A field's refusal, length and whole buffer."""
     before = library.untouched(room)
-    if isinstance(wanted, int):
-        answer = (wanted, 0, before)
-    else:
-        answer = (0, len(wanted), wanted + before[len(wanted):])
-    check(what, library.field(expression, table, datum, room), answer)
-for file, table, room, (refusal, line, marks, count) in selection.VECTORS:
-    what = "selection of %r, %d bytes of table, %d of marks" % (file[:120], len(table), room)
-    if refusal:
-        answer = (refusal, (line, 0, 0), b"\xff" * room)
-    else:
-        answer = (0, (0, len(marks), count), marks + library.unmarked(room)[len(marks):])
-    check(what, library.select(file, table, room), answer)
+    return (wanted, 0, before) if isinstance(wanted, int) else (0, len(wanted), wanted + before[len(wanted):])
 
-end()
+
+def selection_answer(refusal, line, marks, count, room):
+    """A selection's refusal, numbers and whole array of marks."""
+    if refusal:
+        return refusal, (line, 0, 0), b"\xff" * room
+    return 0, (0, len(marks), count), marks + library.unmarked(room)[len(marks):]
+
+
+def vectors():
+    """Every vector: its part, its input, the other arguments in words, the call and the answer that it has to give."""
+    for expression, refusal, read in tokens.VECTORS:
+        yield "tokens", expression, "", partial(library.tokens, expression), (refusal, tokens.expected(read, expression))
+    for expression, places in tokens.PLACES:
+        yield "places", expression, "", lambda: [token[1] for token in library.tokens(expression)[1]], places
+    for table, good in tables.TABLES:
+        yield "table", b"", "%d bytes" % len(table), partial(library.table, table), 0 if good else 1
+    for table, name, found in tables.LOOKUPS:
+        yield "lookup", name, "%d bytes of table" % len(table), partial(library.lookup, table, name), (0, found)
+    for table, good in tables.TABLES:
+        if not good:
+            yield "malformed", b"", "%d bytes" % len(table), partial(library.lookup, table, b"A"), (1, (library.VALUE,) * 3)
+    for expression, table, wanted in evaluation.VECTORS:
+        yield "value", expression, "%d bytes of table" % len(table), partial(library.evaluate, expression, table), wanted
+    for expression, table, datum, room, wanted in field.VECTORS:
+        what = "datum %d, %d bytes of room" % (datum, room)
+        yield "field", expression, what, partial(library.field, expression, table, datum, room), field_answer(wanted, room)
+    for file, table, room, wanted in selection.VECTORS:
+        what = "%d bytes of table, %d of marks" % (len(table), room)
+        yield "selection", file, what, partial(library.select, file, table, room), selection_answer(*wanted, room)
+
+
+def main():
+    choose(sys.argv[1:])
+    numbers = collections.Counter()
+    for part, given, more, call, wanted in vectors():
+        numbers[part] += 1
+        name, shown = "%s:%d" % (part, numbers[part]), repr(given)[2:-1]
+        if chosen(name, part, "%s:%s" % (part, shown)):
+            check("%s, %s, %s" % (name, shown[:120], more), call(), wanted)
+    end()
+
+
+main()
