@@ -9,7 +9,7 @@ use lib.ListN.{length}
 use lib.Dec.{eqb}
 use borrow.Author.Tests.{eqb-true}
 use Rattle.text.proofs.Laws.{pick-case}
-use Rattle.lexeme.specs.Codes.{STRING, WIDE, MACRO, PCD}
+use Rattle.codes.specs.Codes.{STRING, WIDE, MACRO, PCD}
 use Rattle.settings.specs.Setting.{under, Within as WithinTable}
 use Rattle.settings.specs.declared.Setting.{Setting}
 use Rattle.settings.specs.declared.Setting.the-variants.{Number, String, Wide, Missing}
