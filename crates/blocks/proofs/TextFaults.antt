@@ -19,7 +19,8 @@ use Rattle.text.specs.declared.runs.Set.the-variants.{Word, Blanks}
 use Rattle.text.proofs.Laws.{pick-case}
 use Rattle.codes.specs.Spellings.{Spelling, words, symbols}
 use Rattle.codes.specs.Codes.{STRING, WIDE}
-use Rattle.lexeme.specs.Lexeme.{literal, isDecimal, isHexadecimal, hexadecimalOf, numberOf, stringOf, stringAt, spelled, isWide, wordOf, macroOf, begins, leading, lexemeBy, lexeme}
+use Rattle.literal.specs.Literal.{literal, isDecimal, isHexadecimal, hexadecimalOf, numberOf}
+use Rattle.lexeme.specs.Lexeme.{stringOf, stringAt, spelled, isWide, wordOf, macroOf, begins, leading, lexemeBy, lexeme}
 use Rattle.codes.specs.declared.Lexeme.{Lexeme}
 use Rattle.codes.specs.declared.Lexeme.the-variants.{Found, Wrong as Bad}
 use Rattle.token.specs.Tokens.{Token, Reading, readToken, readByte, readFrom, tooDeep, checkDepth, codesOf, reading}
