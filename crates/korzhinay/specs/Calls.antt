@@ -9,7 +9,8 @@ use Rattle.settings.specs.Table.{wellFormed}
 use Rattle.settings.specs.Setting.{under}
 use Rattle.settings.specs.declared.Setting.{Setting}
 use Rattle.settings.specs.declared.Setting.the-variants.{Number, String, Wide, Missing}
-use Rattle.token.specs.Tokens.{Reading, stored, Stored}
+use Rattle.text.specs.Parts.{stored}
+use Rattle.token.specs.Tokens.{Reading, Stored}
 use Rattle.token.specs.declared.scan.Ending.{Ending}
 use Rattle.token.specs.declared.scan.Ending.the-variants.{Complete, Refused}
 

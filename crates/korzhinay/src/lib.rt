@@ -12,7 +12,8 @@ ghost use Rattle.units.specs.Refusals.{TABLE-MALFORMED};
 ghost use mathlib.Core.Bool.{true};
 ghost use Rattle.settings.specs.Table.{wellFormed};
 ghost use Rattle.settings.specs.Setting.{under};
-ghost use Rattle.token.specs.Tokens.{stored, reading};
+ghost use Rattle.text.specs.Parts.{stored};
+ghost use Rattle.token.specs.Tokens.{reading};
 ghost use Rattle.korzhinay.specs.Calls.{shown, Shows, Lists, refusalNumber};
 
 // 0 where the table is well formed, else 1.
