@@ -17,11 +17,12 @@ use Rattle.text.specs.declared.bytes.Class.{Class}
 use Rattle.text.specs.declared.bytes.Class.the-variants.{Initial, Digit, Quote, Blank, Operator, Dollar, Comment, Other}
 use Rattle.text.specs.declared.runs.Set.the-variants.{Word, Blanks}
 use Rattle.text.proofs.Laws.{pick-case}
-use Rattle.lexeme.specs.Spellings.{Spelling, words, symbols}
-use Rattle.lexeme.specs.Codes.{STRING, WIDE}
-use Rattle.lexeme.specs.Lexeme.{literal, isDecimal, isHexadecimal, hexadecimalOf, numberOf, stringOf, stringAt, spelled, isWide, wordOf, macroOf, begins, leading, lexemeBy, lexeme}
-use Rattle.lexeme.specs.declared.Lexeme.{Lexeme}
-use Rattle.lexeme.specs.declared.Lexeme.the-variants.{Found, Wrong as Bad}
+use Rattle.codes.specs.Spellings.{Spelling, words, symbols}
+use Rattle.codes.specs.Codes.{STRING, WIDE}
+use Rattle.literal.specs.Literal.{literal, isDecimal, isHexadecimal, hexadecimalOf, numberOf}
+use Rattle.lexeme.specs.Lexeme.{stringOf, stringAt, spelled, isWide, wordOf, macroOf, begins, leading, lexemeBy, lexeme}
+use Rattle.codes.specs.declared.Lexeme.{Lexeme}
+use Rattle.codes.specs.declared.Lexeme.the-variants.{Found, Wrong as Bad}
 use Rattle.token.specs.Tokens.{Token, Reading, readToken, readByte, readFrom, tooDeep, checkDepth, codesOf, reading}
 use Rattle.token.specs.declared.scan.Ending.{Ending}
 use Rattle.token.specs.declared.scan.Ending.the-variants.{Complete, Refused}

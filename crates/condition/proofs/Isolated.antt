@@ -3,11 +3,11 @@ use Prim.Native.Nat.{ℕ}
 use mathlib.Core.Path.{_≡_, refl, sym, ap, _∙_}
 use mathlib.Core.Bool.{Bool, true, false}
 use mathlib.Core.List.{List}
-use Rattle.settings.specs.Records.{recordUnder, Content, number as number-in, string as string-in, wide as wide-in, missing, contentIn, contentOf}
-use Rattle.settings.specs.Setting.{under}
-use Rattle.settings.specs.declared.Setting.{Setting}
-use Rattle.settings.specs.declared.Setting.the-variants.{Number, String, Wide, Missing}
-use Rattle.settings.proofs.Records.{under-content}
+use Rattle.lookup.specs.Records.{recordUnder, Content, number as number-in, string as string-in, wide as wide-in, missing, contentIn, contentOf}
+use Rattle.lookup.specs.Setting.{under}
+use Rattle.lookup.specs.declared.Setting.{Setting}
+use Rattle.lookup.specs.declared.Setting.the-variants.{Number, String, Wide, Missing}
+use Rattle.lookup.proofs.Records.{under-content}
 use Rattle.value.specs.Values.{number, string, wide, fault, isMissing}
 use Rattle.evaluation.specs.Evaluation.{Evaluation, value, refused, inSoundTable}
 use Rattle.evaluation.specs.Isolation.{unplacedAnswer}

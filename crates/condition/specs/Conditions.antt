@@ -10,7 +10,7 @@ use Rattle.text.specs.Bytes.{byte, pick, blank}
 use Rattle.text.specs.Runs.{span}
 use Rattle.text.specs.Names.{macroName}
 use Rattle.text.specs.declared.runs.Set.the-variants.{Blanks}
-use Rattle.settings.specs.Setting.{under}
+use Rattle.lookup.specs.Setting.{under}
 use Rattle.value.specs.Values.{number, string, wide, fault, isMissing}
 use Rattle.evaluation.specs.Evaluation.{Evaluation, value, refused, inSoundTable}
 use Rattle.line.specs.declared.Directive.{Directive}

@@ -92,7 +92,7 @@ fn named_says(table: &[u8], wanted: bool, text: &[u8], n: Named) -> Condition
     }
     let start = n.start;
     let name = parts::part(text, start, n.len);
-    decide(wanted, values::is_missing(settings::lookup(table, name)))
+    decide(wanted, values::is_missing(lookup::lookup(table, name)))
 }
 
 // `!ifdef` where `wanted` is true, `!ifndef` where it is false.

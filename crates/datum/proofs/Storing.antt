@@ -7,7 +7,7 @@ use mathlib.Core.Path.{_≡_, refl, sym, ap, _∙_}
 use mathlib.Core.List.{List, [], _∷_, _++_}
 use lib.ListN.{length, getD, set, drop, length-append, drop-of-length-le}
 use lib.Seq.{sets, length-sets, drop-cons}
-use Rattle.token.specs.Tokens.{stored}
+use Rattle.text.specs.Parts.{stored}
 use Rattle.datum.specs.Encoding.{lowestBytes, terminated, widened}
 
 -- the list l, once l₀, into which `rest` is left to store from i on, and nothing else of `whole`

@@ -6,7 +6,7 @@ use lib.ListN.{length}
 use lib.Dec.{eqb, ltb, leb}
 use Rattle.units.specs.Refusals.{DATUM-UNKNOWN, DATUM-KIND, DATUM-RANGE, BUFFER-SHORT, refusal}
 use Rattle.text.specs.Bytes.{pick}
-use Rattle.token.specs.Tokens.{stored}
+use Rattle.text.specs.Parts.{stored}
 use Rattle.datum.specs.declared.Written.{Written}
 use Rattle.datum.specs.declared.Written.the-variants.{Length, Refused}
 

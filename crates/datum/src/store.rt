@@ -4,7 +4,7 @@ ghost use mathlib.Core.List.{[], _∷_};
 ghost use Prim.Native.Nat.{_+_, _*_, _≤_, _<_};
 ghost use lib.ListN.{length};
 ghost use lib.Seq.{sets};
-ghost use Rattle.token.specs.Tokens.{stored};
+ghost use Rattle.text.specs.Parts.{stored};
 ghost use Rattle.datum.specs.Encoding.{lowestBytes, terminated, widened};
 
 // The lowest `n` bytes of a number, the lowest first.

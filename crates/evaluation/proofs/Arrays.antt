@@ -8,7 +8,8 @@ use lib.ListN.{length, getD, take, drop, length-map, List·getD-eq-default}
 use lib.Seq.{sets-eq, take-at, length-sets}
 use lib.Dec.{ltb}
 use borrow.Author.Tests.{ltb-true, ltb-false}
-use Rattle.token.specs.Tokens.{Token, Reading, codesOf, reading, stored, Stored}
+use Rattle.text.specs.Parts.{stored}
+use Rattle.token.specs.Tokens.{Token, Reading, codesOf, reading, Stored}
 use Rattle.token.specs.Steps.{Room}
 use Rattle.token.specs.declared.scan.Ending.the-variants.{Complete}
 use Rattle.token.proofs.Reading.{most-tokens}

@@ -6,7 +6,7 @@ use mathlib.Core.Bool.{Bool}
 use mathlib.Core.List.{List}
 use lib.ListN.{length}
 use Rattle.text.proofs.Laws.{pick-both}
-use Rattle.settings.specs.Records.{recordUnder}
+use Rattle.lookup.specs.Records.{recordUnder}
 use Rattle.token.specs.Tokens.{Token, codesOf, reading}
 use Rattle.token.specs.declared.scan.Ending.{Ending}
 use Rattle.token.specs.declared.scan.Ending.the-variants.{Complete, Refused}

@@ -11,8 +11,8 @@ use Rattle.text.specs.declared.bytes.Class.the-variants.{Initial, Digit, Quote,
 use Rattle.text.proofs.Laws.{pick-case}
 use Rattle.settings.specs.Table.{wellFormed}
 use Rattle.lexeme.specs.Lexeme.{lexeme}
-use Rattle.lexeme.specs.declared.Lexeme.{Lexeme}
-use Rattle.lexeme.specs.declared.Lexeme.the-variants.{Found, Wrong}
+use Rattle.codes.specs.declared.Lexeme.{Lexeme}
+use Rattle.codes.specs.declared.Lexeme.the-variants.{Found, Wrong}
 use Rattle.token.specs.Tokens.{MOST-BYTES, MOST-TOKENS, Reading, readToken, readByte, readFrom, tooDeep, checkDepth, codesOf, reading}
 use Rattle.token.specs.declared.scan.Ending.{Ending}
 use Rattle.token.specs.declared.scan.Ending.the-variants.{Complete, Refused}

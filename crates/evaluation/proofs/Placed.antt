@@ -9,11 +9,11 @@ use lib.ListN.{length}
 use lib.Dec.{eqb}
 use borrow.Author.Tests.{eqb-true}
 use Rattle.text.proofs.Laws.{pick-case}
-use Rattle.lexeme.specs.Codes.{STRING, WIDE, MACRO, PCD}
-use Rattle.settings.specs.Setting.{under, Within as WithinTable}
-use Rattle.settings.specs.declared.Setting.{Setting}
-use Rattle.settings.specs.declared.Setting.the-variants.{Number, String, Wide, Missing}
-use Rattle.settings.proofs.Within.{under-within}
+use Rattle.codes.specs.Codes.{STRING, WIDE, MACRO, PCD}
+use Rattle.lookup.specs.Setting.{under, Within as WithinTable}
+use Rattle.lookup.specs.declared.Setting.{Setting}
+use Rattle.lookup.specs.declared.Setting.the-variants.{Number, String, Wide, Missing}
+use Rattle.lookup.proofs.Within.{under-within}
 use Rattle.token.specs.Tokens.{Token}
 use Rattle.token.proofs.Within.{Within, tokens-in}
 use Rattle.grammar.proofs.Preserved.{Preserves, preserved}

@@ -3,7 +3,7 @@
 use Prim.Native.Nat.{ℕ}
 use mathlib.Core.Path.{_≡_}
 use mathlib.Core.List.{List, List·Memᴰ}
-use Rattle.settings.specs.Records.{recordUnder}
+use Rattle.lookup.specs.Records.{recordUnder}
 use Rattle.token.specs.Tokens.{Token, reading}
 use Rattle.value.specs.Values.{nameIn, Naming}
 use Rattle.value.specs.Unplaced.{unplaced}

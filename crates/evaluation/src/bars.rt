@@ -1,5 +1,4 @@
 // Bars outside parentheses.
-use lexeme::codes;
 use units::TokenNumber;
 ghost use mathlib.Core.Path.{_≡_};
 ghost use mathlib.Core.Bool.{_&&_};

@@ -9,7 +9,7 @@ use lib.ListN.{length, length-append}
 use lib.Dec.{eqb}
 use borrow.Author.Tests.{eqb-true, le-ltb}
 use Rattle.text.specs.Bytes.{pick}
-use Rattle.lexeme.specs.Codes.{OPEN, CLOSE, QUESTION, COLON}
+use Rattle.codes.specs.Codes.{OPEN, CLOSE, QUESTION, COLON}
 use Rattle.token.specs.Tokens.{Token}
 use Rattle.grammar.specs.Grammar.{Nonterminal, level, expression, primaries, isPrimary, isUnary, levelOf}
 use Rattle.grammar.specs.Parse.{END, InTable, Goal, find, extend, Result, bad, got, andThen, step, run, size, Yields}

@@ -5,7 +5,7 @@ use mathlib.Core.List.{List, [], _∷_}
 use lib.ListN.{length, take}
 use lib.Dec.{eqb, leb}
 use Rattle.text.specs.Bytes.{pick}
-use Rattle.lexeme.specs.Codes.{QUESTION}
+use Rattle.codes.specs.Codes.{QUESTION}
 use Rattle.grammar.specs.Grammar.{isPrimary}
 use Rattle.value.specs.Attributes.{Attributes, primaryOf, unaryFrom, binaryFrom, choiceFrom}
 use Rattle.value.specs.declared.Known.{Known}

@@ -1,6 +1,5 @@
 // Works a postfix order out.
 use crate::arrays;
-use lexeme::codes;
 use operands::stack;
 use syntax::tokens;
 use units::TokenNumber;

@@ -6,10 +6,11 @@ use lib.ListN.{length}
 use Rattle.units.specs.Refusals.{TABLE-MALFORMED}
 use Rattle.text.specs.Bytes.{pick}
 use Rattle.settings.specs.Table.{wellFormed}
-use Rattle.settings.specs.Setting.{under}
-use Rattle.settings.specs.declared.Setting.{Setting}
-use Rattle.settings.specs.declared.Setting.the-variants.{Number, String, Wide, Missing}
-use Rattle.token.specs.Tokens.{Reading, stored, Stored}
+use Rattle.lookup.specs.Setting.{under}
+use Rattle.lookup.specs.declared.Setting.{Setting}
+use Rattle.lookup.specs.declared.Setting.the-variants.{Number, String, Wide, Missing}
+use Rattle.text.specs.Parts.{stored}
+use Rattle.token.specs.Tokens.{Reading, Stored}
 use Rattle.token.specs.declared.scan.Ending.{Ending}
 use Rattle.token.specs.declared.scan.Ending.the-variants.{Complete, Refused}
 

@@ -3,7 +3,7 @@ use Prim.Native.Nat.{ℕ}
 use mathlib.Core.Path.{_≡_}
 use mathlib.Core.List.{List, [], _∷_}
 use Rattle.text.specs.Bytes.{pick}
-use Rattle.token.specs.Tokens.{stored}
+use Rattle.text.specs.Parts.{stored}
 use Rattle.evaluation.specs.Evaluation.{Evaluation, refusalNumber, kindNumberOf, numberOf, countOf, placeOf, evaluation}
 
 -- the kind, the number, the count of operators, and where a string stands: 1 for the table and 0 for the expression, its start, its length

@@ -3,7 +3,7 @@ use Prim.Native.Nat.{ℕ}
 use mathlib.Core.Path.{_≡_}
 use mathlib.Core.List.{List, [], _∷_}
 use lib.ListN.{length}
-use Rattle.token.specs.Tokens.{stored}
+use Rattle.text.specs.Parts.{stored}
 use Rattle.select.specs.Select.{selection, answerOf, refusalNumber, lineOf, linesOf, countOf, marksOf}
 use Rattle.select.specs.declared.Answer.{Answer}
 

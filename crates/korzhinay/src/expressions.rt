@@ -7,7 +7,7 @@ ghost use mathlib.Core.Path.{_≡_};
 ghost use mathlib.Core.List.{List, [], _∷_};
 ghost use Prim.Native.Nat.{ℕ};
 ghost use Rattle.text.specs.Bytes.{pick};
-ghost use Rattle.token.specs.Tokens.{stored};
+ghost use Rattle.text.specs.Parts.{stored};
 ghost use Rattle.evaluation.specs.Evaluation.{value as valued, valueSaid};
 ghost use Rattle.korzhinay.specs.Expressions.{answerShown, Answers};
 

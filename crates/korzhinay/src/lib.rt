@@ -3,7 +3,7 @@ mod expressions;
 mod fields;
 mod selections;
 
-use settings::Setting;
+use lookup::Setting;
 use token::scan;
 use token::scan::Ending;
 ghost use mathlib.Core.Path.{_≡_};
@@ -11,8 +11,9 @@ ghost use Rattle.text.specs.Bytes.{pick};
 ghost use Rattle.units.specs.Refusals.{TABLE-MALFORMED};
 ghost use mathlib.Core.Bool.{true};
 ghost use Rattle.settings.specs.Table.{wellFormed};
-ghost use Rattle.settings.specs.Setting.{under};
-ghost use Rattle.token.specs.Tokens.{stored, reading};
+ghost use Rattle.lookup.specs.Setting.{under};
+ghost use Rattle.text.specs.Parts.{stored};
+ghost use Rattle.token.specs.Tokens.{reading};
 ghost use Rattle.korzhinay.specs.Calls.{shown, Shows, Lists, refusalNumber};
 
 // 0 where the table is well formed, else 1.
@@ -32,7 +33,7 @@ fn show(table: &[u8], name: &[u8], out: &mut [u64; 3])
     requires { ⌜ wellFormed (now table) ≡ true ⌝ }
     ensures { λ r. ⌜ now (out .exit) ≡ stored (shown (under (now (table .entry)) (now (name .entry)))) (now (out .entry)) ⌝ }
 {
-    match settings::lookup(table, name) {
+    match lookup::lookup(table, name) {
         Setting::Number(value) => {
             out[0] = 0;
             out[1] = value;

@@ -3,7 +3,7 @@ use select::Answer;
 use select::selection;
 ghost use mathlib.Core.Path.{_≡_};
 ghost use mathlib.Core.List.{[], _∷_};
-ghost use Rattle.token.specs.Tokens.{stored};
+ghost use Rattle.text.specs.Parts.{stored};
 ghost use Rattle.korzhinay.specs.SelectCall.{Marks};
 
 // Stores the line of a refusal, the number of lines and the sum of counts.

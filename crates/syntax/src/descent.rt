@@ -2,7 +2,6 @@
 // of the tokens and writes the postfix order: operands before their operator. No value is looked at, so that a call needs little of the
 // stack.
 use crate::tokens;
-use lexeme::codes;
 use units::TokenNumber;
 ghost use mathlib.Core.Path.{_≡_};
 ghost use mathlib.Core.Bool.{false};

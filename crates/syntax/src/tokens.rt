@@ -1,5 +1,4 @@
 // The codes of the tokens as the descent reads them, and the entries of the order that it writes.
-use lexeme::codes;
 use units::TokenNumber;
 ghost use mathlib.Core.Path.{_≡_};
 ghost use Prim.Native.Nat.{_≤_};

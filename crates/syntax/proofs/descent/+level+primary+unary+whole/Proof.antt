@@ -7,7 +7,7 @@ use mathlib.Core.Bool.{true}
 use mathlib.Core.List.{[], _∷_, _++_, append-nil}
 use lib.ListN.{length, take}
 use borrow.Author.Needs.{needs}
-use Rattle.lexeme.specs.Codes.{OPEN, QUESTION, COLON}
+use Rattle.codes.specs.Codes.{OPEN, QUESTION, COLON}
 use Rattle.grammar.specs.Grammar.{isPrimary, levelOf}
 use Rattle.grammar.proofs.Inside.{code-inside, primary-inside, level-inside}
 use Rattle.grammar.proofs.Steps.{primary-leaf, primary-none, parentheses-bad, parentheses-open, parentheses-closed, unary-none, expression-bad, choice-none, choice-bad-first, choice-no-colon, choice-bad-second, choice-made}

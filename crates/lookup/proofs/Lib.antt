@@ -1,0 +1,3 @@
+pub mod Laws
+pub mod Within
+pub mod Records

@@ -1,0 +1,100 @@
+// What a table of settings has under a name.
+use text::bytes;
+use text::order;
+use text::runs;
+use text::runs::Set;
+use units::Offset;
+ghost use mathlib.Core.Path.{_≡_};
+ghost use Prim.Native.Nat.{_+_, _^_, _≤_, _<_};
+ghost use lib.ListN.{length};
+ghost use Rattle.text.specs.Order.{alike};
+ghost use Rattle.text.specs.Runs.{span};
+ghost use Rattle.text.specs.declared.runs.Set.the-variants.{Filled};
+ghost use Rattle.settings.specs.Table.{unpadded};
+ghost use Rattle.lookup.specs.Setting.{littleEndian, held, LooksUp};
+
+// A part of the table: where a string stands.
+pub struct Part {
+    pub start: Offset,
+    pub len: usize,
+}
+
+// What stands under a name.
+pub enum Setting {
+    Number(u64),
+    String(Part),
+    Wide(Part),
+    Missing,
+}
+
+// Whether a name without zero bytes is the one in a record's name field.
+fn stands(field: &[u8], name: &[u8]) -> bool
+    requires { ⌜ span Filled (now name) ≡ length (now name) ⌝ }
+    ensures { λ r. ⌜ r ≡ alike (unpadded (now (field .entry))) (now (name .entry)) ⌝ }
+{
+    let n = name.len();
+    if field.len() < n {
+        return false;
+    }
+    if bytes::byte_at(field, Offset(n)) != 0 {
+        return false;
+    }
+    order::is_alike(&field[0..n], name)
+}
+
+fn widened(b: u8) -> u64
+    ensures { λ r. ⌜ r ≡ b ⌝ }
+    ensures { λ r. ⌜ r ≤ 255 ⌝ }
+{
+    b as u64
+}
+
+// The number in bytes 72 to 79 of a record.
+fn number_in(r: &[u8]) -> u64
+    requires { ⌜ length (now r) ≡ 128 ⌝ }
+    ensures { λ v. ⌜ v ≡ littleEndian 8 72 (now (r .entry)) ⌝ }
+{
+    let high = widened(r[76])
+        + 256 * (widened(r[77]) + 256 * (widened(r[78]) + 256 * widened(r[79])));
+    widened(r[72])
+        + 256 * (widened(r[73]) + 256 * (widened(r[74]) + 256 * (widened(r[75]) + 256 * high)))
+}
+
+// What a record holds that begins at `at` in the table.
+fn hold(at: Offset, r: &[u8]) -> Setting
+    requires { ⌜ (length (now r) ≡ 128) × (at .0 + 72 < 2 ^ 64) ⌝ }
+    ensures { λ s. ⌜ s ≡ held (at .0) (now (r .entry)) ⌝ }
+{
+    let kind = r[64];
+    let len = settings::index(r[65]);
+    if 56 < len {
+        return Setting::Missing;
+    }
+    let from = at.0;
+    let start = Offset(from + 72);
+    match kind {
+        0 => Setting::Number(number_in(r)),
+        1 => Setting::String(Part { start, len }),
+        2 => Setting::Wide(Part { start, len }),
+        _ => Setting::Missing,
+    }
+}
+
+// What stands under a name.
+pub fn lookup(table: &[u8], name: &[u8]) -> Setting
+    ensures { λ r. ⌜ LooksUp (now (table .entry)) (now (name .entry)) r ⌝ }
+{
+    if runs::run_end(name, Offset(0), Set::Filled).0 != name.len() {
+        return Setting::Missing;
+    }
+    let mut at = 0;
+    while 128 <= table.len() - at {
+        let field = at + 64;
+        let next = at + 128;
+        if stands(&table[at..field], name) {
+            return hold(Offset(at), &table[at..next]);
+        }
+        at = next;
+    }
+    Setting::Missing
+}
