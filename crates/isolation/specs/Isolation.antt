@@ -10,7 +10,7 @@ use lib.ListN.{length, getD, take}
 use Rattle.settings.specs.Table.{wellFormed}
 use Rattle.line.specs.Lines.{lines}
 use Rattle.line.specs.Directives.{directiveOf, textOf}
-use Rattle.condition.specs.Naming.{SameRecords}
+use Rattle.isolation.specs.Naming.{SameRecords}
 use Rattle.nesting.specs.Groups.{standingOf}
 use Rattle.ruling.specs.Standings.{reads}
 use Rattle.nesting.specs.Decide.{State, go}

@@ -1,11 +1,13 @@
--- The promise of specs/Isolation.antt: the tree that the tokens derive does not depend on the table, its leaves are tokens of the
--- expression, and no form looks at places.
+-- What an answer depends on (document 01, "For demand 3"): of the table only the records under the names that the expression names, and
+-- not where in the table these are, except for the place of a string that is answered. The tree that the tokens derive does not depend on
+-- the table, its leaves are tokens of the expression, and no form looks at places.
 use Prim.Native.Nat.{ℕ}
 use mathlib.Core.Path.{_≡_, refl, sym, ap, ap₂, _∙_}
-use mathlib.Core.Bool.{Bool}
+use mathlib.Core.Bool.{Bool, true}
 use mathlib.Core.List.{List}
 use lib.ListN.{length}
 use Rattle.text.proofs.Laws.{pick-both}
+use Rattle.settings.specs.Table.{wellFormed}
 use Rattle.settings.specs.Records.{recordUnder}
 use Rattle.token.specs.Tokens.{Token, codesOf, reading}
 use Rattle.token.specs.declared.scan.Ending.{Ending}
@@ -19,13 +21,21 @@ use Rattle.grammar.proofs.Preserved.{Preserves}
 use Rattle.grammar.proofs.Related.{paired, Paired, related}
 use Rattle.value.specs.Values.{Value, number, string, wide, fault, nameIn, Naming}
 use Rattle.value.specs.Attributes.{Attributes, unaryFrom, binaryFrom, choiceFrom}
-use Rattle.value.specs.Unplaced.{unplaced, unplacedAttributes}
-use Rattle.value.proofs.Unplaced.{unary-unplaced, binary-unplaced, choice-unplaced}
-use Rattle.value.proofs.Named.{primary-unplaced}
+use Rattle.settled.proofs.Unplaced.{unplaced, unplacedAttributes, unary-unplaced, binary-unplaced, choice-unplaced}
+use Rattle.settled.proofs.Named.{primary-unplaced}
 use Rattle.expression.specs.Meaning.{codeOf, meaning}
-use Rattle.evaluation.specs.Evaluation.{Evaluation, finished, clashes, judged, tokenIn, concluded, ofTokens, ended, inSoundTable}
-use Rattle.evaluation.specs.Isolation.{SameRecords, unplacedAnswer, Isolated}
-use Rattle.evaluation.proofs.Answered.{tokens-read}
+use Rattle.evaluation.specs.Evaluation.{Evaluation, value, refused, finished, clashes, judged, tokenIn, concluded, ofTokens, ended, evaluation}
+use Rattle.evaluation.proofs.FromTree.{tokens-read}
+use Rattle.answers.specs.Names.{Names}
+
+-- two tables have the same record under every name that e names, or neither has one
+abbrev pub SameRecords : (t₁ t₂ e : List ℕ) → Type 0
+SameRecords t₁ t₂ e = (n : List ℕ) → Names e n → recordUnder t₁ n ≡ recordUnder t₂ n
+
+-- an answer without the place of its string
+abbrev pub unplacedAnswer : Evaluation → Evaluation
+unplacedAnswer (value v n) = value (unplaced v) n
+unplacedAnswer (refused r) = refused r
 
 -- judging looks at no place
 finished-unplaced : (v : Value) (n : ℕ) → unplacedAnswer (finished v n) ≡ finished (unplaced v) n
@@ -43,7 +53,7 @@ judged-unplaced bar a =
     (λ _. pick-both Unplaces (a .missing) (λ _. refl)
     (λ _. pick-both Unplaces (clashes (a .kind)) (λ _. refl) (λ _. finished-unplaced (a .value) (a .count))))
 
--- two attributes are the same but for places
+-- two attributes are the same except for places
 abbrev Same : Attributes → Attributes → Type 0
 Same a b = unplacedAttributes a ≡ unplacedAttributes b
 
@@ -82,9 +92,10 @@ module _ (e t₁ t₂ : List ℕ) where
         rw (evaluates (tokens-read e t₁) (meaning e t₁) .folded, evaluates (tokens-read e t₁) (meaning e t₂) .folded)
         (by-outcome (parse codeOf trees (tokenIn (reading e .tokens)) (length (reading e .tokens))) refl (codesOf (reading e .tokens)))
 
-  pub isolated : Isolated e t₁ t₂
-  unfolding inSoundTable
-  isolated same = by (reading e .ending)
+  -- over well-formed tables both give the same answer: the same value and count of operators, or the same refusal
+  pub isolated : wellFormed t₁ ≡ true → wellFormed t₂ ≡ true → SameRecords t₁ t₂ e → unplacedAnswer (evaluation e t₁) ≡ unplacedAnswer (evaluation e t₂)
+  unfolding evaluation
+  isolated sound₁ sound₂ same = rw (sound₁, sound₂) (by (reading e .ending))
     where
       by : (y : Ending) → unplacedAnswer (ended y (ofTokens e t₁ (reading e .tokens))) ≡ unplacedAnswer (ended y (ofTokens e t₂ (reading e .tokens)))
       by (Refused r) = refl

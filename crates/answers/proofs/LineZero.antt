@@ -21,8 +21,8 @@ use Rattle.grammar.specs.Parse.{Outcome, refused as underived, accepted, parse}
 use Rattle.value.specs.Values.{Value, number, string, wide, fault}
 use Rattle.value.specs.Attributes.{Attributes}
 use Rattle.expression.specs.Meaning.{codeOf, meaning}
-use Rattle.evaluation.specs.Evaluation.{Evaluation, lineOf, finished, clashes, tokenIn, concluded, ofTokens, ended, inSoundTable, evaluation}
-use Rattle.evaluation.specs.Answers.{WithoutLine}
+use Rattle.evaluation.specs.Evaluation.{Evaluation, lineOf, finished, clashes, tokenIn, concluded, ofTokens, ended, evaluation}
+use Rattle.answers.specs.Answers.{WithoutLine}
 
 -- where reading ended with a refusal, that has line 0
 abbrev EndsSo : Ending → Type 0
@@ -84,7 +84,7 @@ ended-so (Refused r) y h k = h
 ended-so Complete y h k = k
 
 pub without-line : (e t : List ℕ) → WithoutLine e t
-unfolding evaluation inSoundTable ofTokens
+unfolding evaluation ofTokens
 without-line e t =
     pick-case LineZero (wellFormed t)
     (λ _. ended-so (reading e .ending) (ofTokens e t (reading e .tokens)) (reads-so e)

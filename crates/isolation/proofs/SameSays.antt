@@ -1,21 +1,21 @@
--- What a text says depends on the table only through the records under the names that it names. Assumes nothing.
+-- What a text says depends on a well-formed table only through the records under the names that it names. Assumes nothing.
 use Prim.Native.Nat.{ℕ}
 use mathlib.Core.Path.{_≡_, refl, sym, ap, _∙_}
 use mathlib.Core.Bool.{Bool, true, false}
 use mathlib.Core.List.{List}
+use Rattle.settings.specs.Table.{wellFormed}
 use Rattle.settings.specs.Records.{recordUnder, Content, number as number-in, string as string-in, wide as wide-in, missing, contentIn, contentOf}
 use Rattle.settings.specs.Setting.{under}
 use Rattle.settings.specs.declared.Setting.{Setting}
 use Rattle.settings.specs.declared.Setting.the-variants.{Number, String, Wide, Missing}
 use Rattle.settings.proofs.Records.{under-content}
 use Rattle.value.specs.Values.{number, string, wide, fault, isMissing}
-use Rattle.evaluation.specs.Evaluation.{Evaluation, value, refused, inSoundTable}
-use Rattle.evaluation.specs.Isolation.{unplacedAnswer}
-use Rattle.evaluation.proofs.Isolated.{isolated}
+use Rattle.evaluation.specs.Evaluation.{Evaluation, value, refused, evaluation}
+use Rattle.answers.proofs.Isolated.{unplacedAnswer, isolated}
 use Rattle.line.specs.declared.Directive.{Directive}
 use Rattle.line.specs.declared.Directive.the-variants.{Plain, If, Ifdef, Ifndef, Elseif, Else, Endif, Unknown}
 use Rattle.condition.specs.Conditions.{ofAnswer, expressionSays, namedSays, nameSays, says}
-use Rattle.condition.specs.Naming.{macroIn, SameRecords}
+use Rattle.isolation.specs.Naming.{macroIn, SameRecords}
 
 -- an answer's place does not matter to a condition
 unplaced-condition : (x : Evaluation) → ofAnswer (unplacedAnswer x) ≡ ofAnswer x
@@ -45,21 +45,21 @@ same-missing t₁ t₂ n e =
     missing-content t₁ (under t₁ n) ∙ ap noContent (under-content t₁ n ∙ ap contentOf e ∙ sym (under-content t₂ n)) ∙ sym (missing-content t₂ (under t₂ n))
 
 module _ (t₁ t₂ s : List ℕ) where
-  same-expression : unplacedAnswer (inSoundTable s t₁) ≡ unplacedAnswer (inSoundTable s t₂) → expressionSays t₁ s ≡ expressionSays t₂ s
+  same-expression : unplacedAnswer (evaluation s t₁) ≡ unplacedAnswer (evaluation s t₂) → expressionSays t₁ s ≡ expressionSays t₂ s
   unfolding expressionSays
-  same-expression e = rw (sym (unplaced-condition (inSoundTable s t₁)) ∙ ap ofAnswer e ∙ unplaced-condition (inSoundTable s t₂))
+  same-expression e = rw (sym (unplaced-condition (evaluation s t₁)) ∙ ap ofAnswer e ∙ unplaced-condition (evaluation s t₂))
 
   same-name : (wanted : Bool) → recordUnder t₁ (macroIn s) ≡ recordUnder t₂ (macroIn s) → nameSays t₁ wanted s ≡ nameSays t₂ wanted s
   unfolding nameSays namedSays
   same-name wanted e = rw (same-missing t₁ t₂ (macroIn s) e)
 
-  pub same-says : (d : Directive) → SameRecords t₁ t₂ d s → says t₁ d s ≡ says t₂ d s
+  pub same-says : wellFormed t₁ ≡ true → wellFormed t₂ ≡ true → (d : Directive) → SameRecords t₁ t₂ d s → says t₁ d s ≡ says t₂ d s
   unfolding says
-  same-says If h = same-expression (isolated s t₁ t₂ h)
-  same-says Elseif h = same-expression (isolated s t₁ t₂ h)
-  same-says Ifdef h = same-name true (h (macroIn s) refl)
-  same-says Ifndef h = same-name false (h (macroIn s) refl)
-  same-says Else h = refl
-  same-says Endif h = refl
-  same-says Plain h = refl
-  same-says Unknown h = refl
+  same-says sound₁ sound₂ If h = same-expression (isolated s t₁ t₂ sound₁ sound₂ h)
+  same-says sound₁ sound₂ Elseif h = same-expression (isolated s t₁ t₂ sound₁ sound₂ h)
+  same-says sound₁ sound₂ Ifdef h = same-name true (h (macroIn s) refl)
+  same-says sound₁ sound₂ Ifndef h = same-name false (h (macroIn s) refl)
+  same-says sound₁ sound₂ Else h = refl
+  same-says sound₁ sound₂ Endif h = refl
+  same-says sound₁ sound₂ Plain h = refl
+  same-says sound₁ sound₂ Unknown h = refl

@@ -18,10 +18,10 @@ use Rattle.token.specs.Tokens.{Token}
 use Rattle.token.proofs.Within.{Within, tokens-in}
 use Rattle.grammar.proofs.Preserved.{Preserves, preserved}
 use Rattle.value.specs.Values.{settingIn, nameIn, primaryValue}
-use Rattle.value.proofs.Results.{of-unary, of-binary, of-choice}
+use Rattle.settled.proofs.Results.{of-unary, of-binary, of-choice}
 use Rattle.expression.specs.Meaning.{codeOf, meaning}
-use Rattle.evaluation.specs.Answers.{Stands, Placed}
-use Rattle.evaluation.proofs.Answered.{from-tree}
+use Rattle.answers.specs.Answers.{Stands, Placed}
+use Rattle.evaluation.proofs.FromTree.{from-tree}
 
 module _ (e t : List ℕ) where
   setting-stands : (s : Setting) → WithinTable t s → Stands e t (settingIn t s)

@@ -19,7 +19,7 @@ use Rattle.grammar.specs.Parse.{run, parse}
 use Rattle.value.specs.Kinds.{unaryKind, binaryKind, choiceKind}
 use Rattle.value.specs.Values.{number, primaryValue, missingPcd, unaryValue, bothValues, binaryValue, choiceValue}
 use Rattle.grammar.specs.Bars.{barOutside}
-use Rattle.evaluation.specs.Evaluation.{Evaluation, value, refusedWith, evaluation, inSoundTable, ofTokens}
+use Rattle.evaluation.specs.Evaluation.{Evaluation, value, refusedWith, evaluation, ofTokens}
 
 -- an expression and its answer
 pub record Example : Type 0 where
@@ -51,5 +51,5 @@ examples =
     ∷ []
 
 pub examples-hold : map (λ x. evaluation (bytes (x .expression)) []) examples ≡ map (λ x. x .answer) examples
-unfolding evaluation inSoundTable ofTokens barOutside recordsIn sound ascending wellFormed reading readToken readByte readFrom tooDeep checkDepth classOf span compared macroName pcdName digitOf valueIn literal isDecimal isHexadecimal hexadecimalOf numberOf stringOf stringAt spelled isWide wordOf macroOf begins leading lexemeBy lexeme isPrimary isUnary levelOf run parse unaryKind binaryKind choiceKind andDigits orDigits changed applied comparison numbers primaryValue missingPcd unaryValue bothValues binaryValue choiceValue
+unfolding evaluation ofTokens barOutside recordsIn sound ascending wellFormed reading readToken readByte readFrom tooDeep checkDepth classOf span compared macroName pcdName digitOf valueIn literal isDecimal isHexadecimal hexadecimalOf numberOf stringOf stringAt spelled isWide wordOf macroOf begins leading lexemeBy lexeme isPrimary isUnary levelOf run parse unaryKind binaryKind choiceKind andDigits orDigits changed applied comparison numbers primaryValue missingPcd unaryValue bothValues binaryValue choiceValue
 examples-hold = refl

@@ -17,9 +17,9 @@ use Rattle.grammar.specs.Fold.{fold}
 use Rattle.grammar.specs.Bars.{bare}
 use Rattle.value.specs.Values.{Value, number, string, wide, fault, kindOf}
 use Rattle.value.specs.Places.{bytesAt}
-use Rattle.value.specs.Settled.{Settles}
+use Rattle.settled.specs.Settled.{Settles}
 use Rattle.expression.specs.Meaning.{codeOf, meaning}
 use Rattle.evaluation.specs.Evaluation.{value, refused, refusedWith, lineOf, judged, evaluation}
 
 -- a malformed table is 1, whatever the expression; then come the refusals that reading the expression meets, 2 to 6
 pub record Unread (e t : List ℕ) : Type 0 where

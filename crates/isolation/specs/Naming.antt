@@ -7,11 +7,11 @@ use lib.ListN.{take, drop}
 use Rattle.text.specs.Runs.{span}
 use Rattle.text.specs.declared.runs.Set.the-variants.{Blanks}
 use Rattle.settings.specs.Records.{recordUnder}
-use Rattle.evaluation.specs.Isolation.{Names}
+use Rattle.answers.specs.Names.{Names}
 use Rattle.line.specs.declared.Directive.{Directive}
 use Rattle.line.specs.declared.Directive.the-variants.{Plain, If, Ifdef, Ifndef, Elseif, Else, Endif, Unknown}
 use Rattle.condition.specs.Conditions.{nameAt}
 use Rattle.condition.specs.declared.macros.Named.{Named}
 
 -- the macro's name in a text that begins with blanks
 abbrev pub macroIn : List ℕ → List ℕ
