@@ -21,7 +21,7 @@ ghost use Rattle.settings.specs.Table.{wellFormed};
 ghost use Rattle.token.specs.Tokens.{reading};
 ghost use Rattle.token.specs.Steps.{Room};
 ghost use Rattle.grammar.specs.Parse.{parse};
-ghost use Rattle.value.specs.Places.{meant, known};
+ghost use Rattle.value.specs.Denote.{meant, known};
 ghost use Rattle.expression.specs.Meaning.{codeOf, meaning};
 ghost use Rattle.expression.specs.Parsing.{tokenAt, Ready};
 ghost use Rattle.evaluation.specs.Evaluation.{refusedWith, finished, clashes as clashesOf, judged, concluded, evaluation, stated, HandsBack};

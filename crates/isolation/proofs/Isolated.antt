@@ -2,6 +2,7 @@
 use Prim.Native.Nat.{ℕ, _+_, _≤_}
 use native.Mathlib.Omega.{arith}
 use mathlib.Core.Path.{_≡_, refl, sym, ap, _∙_}
+use mathlib.Core.Logic.{_↔_}
 use mathlib.Core.Bool.{Bool, true, false}
 use mathlib.Core.List.{List, [], _++_}
 use lib.ListN.{length, getD, take, drop}
@@ -14,13 +15,13 @@ use Rattle.line.specs.Directives.{directiveOf, textOf}
 use Rattle.condition.specs.Conditions.{says, countOf}
 use Rattle.nesting.specs.Groups.{standingOf}
 use Rattle.ruling.specs.Standings.{reads}
-use Rattle.nesting.specs.Decide.{State}
+use Rattle.nesting.specs.Decide.{State, go}
 use Rattle.nesting.proofs.Decided.{Marked, Unmarked, read-marked, unread-marked}
 use Rattle.select.specs.Step.{heard, step}
 use Rattle.select.specs.Select.{Result, accepted, refused, start, selection, numberOfLines, Selects}
 use Rattle.select.specs.declared.Answer.{Answer}
 use Rattle.select.specs.declared.Answer.the-variants.{Accepted}
-use Rattle.isolation.specs.Isolation.{MarksTell, Agrees, Isolation, TwoCalls}
+use Rattle.isolation.specs.Isolation.{Read, Agrees, Isolation, TwoCalls}
 use Rattle.isolation.proofs.SameSays.{same-says}
 use Rattle.isolation.proofs.Simulation.{Like, AllLike, same-run}
 use Rattle.select.proofs.Before.{runs, accepted-runs, accepted-sound}
@@ -56,6 +57,11 @@ module _ (t : List ℕ) (n : ℕ) (s : State) (l : List ℕ) where
   unread-below h =
       pick-case Unmarked (ltb 1024 (length l)) (λ _. tt)
       (λ _. unread-marked (directiveOf l) (heard t (s .groups) l) n (s .count + countOf (heard t (s .groups) l)) (s .groups) h)
+
+-- of a step, by the standing of the innermost group
+abbrev pub MarksTell : Type 0
+MarksTell = (t : List ℕ) (n : ℕ) (s : State) (l : List ℕ) (m : ℕ) (s′ : State) → step t n s l ≡ go m s′
+    → (reads (directiveOf l) (standingOf (s .groups)) ≡ true) ↔ Read m
 
 pub marks-tell : MarksTell
 marks-tell t n s l m s′ e = (λ h. rw e at (read-above t n s l h), by (reads (directiveOf l) (standingOf (s .groups))) refl)

@@ -20,9 +20,14 @@ use Rattle.nesting.specs.declared.Selection.{Selection}
 use Rattle.nesting.specs.declared.Step.{Step}
 use Rattle.select.specs.Step.{step}
 use Rattle.select.specs.Select.{Result, accepted, refused, prepend, atEnd, after, run, start}
-use Rattle.select.specs.Running.{ends, prepended, Runs, MarksPlain}
+use Rattle.select.specs.Running.{ends, Runs, MarksPlain}
 use Rattle.select.specs.declared.Answer.{Answer}
 use Rattle.select.proofs.Steps.{step-small, plain-step}
+
+-- the marks of the lines so far in front of what comes of the others
+unfoldable pub prepended : List ℕ → Result → Result
+prepended [] r = r
+prepended (m ∷ ms) r = prepend m (prepended ms r)
 
 prepended-accepted : (ms : List ℕ) (c : ℕ) → prepended ms (accepted [] c) ≡ accepted ms c
 unfolding prepended
