@@ -11,8 +11,8 @@ use Rattle.text.specs.Bytes.{pick}
 use Rattle.line.specs.Directives.{directiveOf}
 use Rattle.line.specs.declared.Directive.{Directive}
 use Rattle.line.specs.declared.Directive.the-variants.{Plain, If, Ifdef, Ifndef, Elseif, Else, Endif, Unknown}
-use Rattle.condition.specs.declared.Condition.{Condition}
-use Rattle.condition.specs.declared.Condition.the-variants.{Holds, Fails, Wrong}
+use Rattle.line.specs.declared.Condition.{Condition}
+use Rattle.line.specs.declared.Condition.the-variants.{Holds, Fails, Wrong}
 use Rattle.ruling.specs.Standings.{live}
 use Rattle.ruling.specs.Rules.{elseifRuling, elseRuling, endRuling}
 use Rattle.ruling.specs.declared.Standing.{Standing}

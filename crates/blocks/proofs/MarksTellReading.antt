@@ -11,8 +11,8 @@ use Rattle.line.specs.Directives.{directiveOf, textOf}
 use Rattle.line.specs.Lines.{lines}
 use Rattle.line.specs.declared.Directive.the-variants.{Elseif, Else, Endif}
 use Rattle.condition.specs.Conditions.{says}
-use Rattle.condition.specs.declared.Condition.{Condition}
-use Rattle.condition.specs.declared.Condition.the-variants.{Holds, Fails, Wrong}
+use Rattle.line.specs.declared.Condition.{Condition}
+use Rattle.line.specs.declared.Condition.the-variants.{Holds, Fails, Wrong}
 use Rattle.isolation.specs.Isolation.{Read}
 use Rattle.select.proofs.Marked.{marks-each-line}
 use Rattle.blocks.specs.Blocks.{Blocks, empty, line, group, Branches, endif, elseif, else}

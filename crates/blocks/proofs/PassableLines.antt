@@ -11,7 +11,7 @@ use Rattle.text.specs.Order.{compared}
 use Rattle.line.specs.Directives.{named, wordStart, textStart, directiveOf, textOf}
 use Rattle.line.specs.declared.Directive.the-variants.{Endif}
 use Rattle.condition.specs.Conditions.{idle, says}
-use Rattle.condition.specs.declared.Condition.the-variants.{Holds}
+use Rattle.line.specs.declared.Condition.the-variants.{Holds}
 use Rattle.ruling.specs.Standings.{around}
 use Rattle.nesting.specs.Groups.{Group, group as entry}
 use Rattle.nesting.specs.Decide.{State, state}

@@ -12,7 +12,7 @@ use Rattle.line.specs.Directives.{directiveOf}
 use Rattle.line.specs.declared.Directive.{Directive}
 use Rattle.line.specs.declared.Directive.the-variants.{Plain, If, Ifdef, Ifndef, Elseif, Else, Endif, Unknown}
 use Rattle.condition.specs.Conditions.{countOf}
-use Rattle.condition.specs.declared.Condition.{Condition}
+use Rattle.line.specs.declared.Condition.{Condition}
 use Rattle.nesting.specs.Decide.{State, stop, decided}
 use Rattle.select.specs.Step.{heard, step}
 use Rattle.select.specs.Select.{Result, accepted, refused, run, start}

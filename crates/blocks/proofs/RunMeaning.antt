@@ -12,8 +12,8 @@ use Rattle.line.specs.Directives.{directiveOf, textOf}
 use Rattle.line.specs.declared.Directive.{Directive}
 use Rattle.line.specs.declared.Directive.the-variants.{Elseif, Else, Endif}
 use Rattle.condition.specs.Conditions.{says, countOf}
-use Rattle.condition.specs.declared.Condition.{Condition}
-use Rattle.condition.specs.declared.Condition.the-variants.{Holds, Fails, Wrong}
+use Rattle.line.specs.declared.Condition.{Condition}
+use Rattle.line.specs.declared.Condition.the-variants.{Holds, Fails, Wrong}
 use Rattle.ruling.specs.Standings.{live, around, reads}
 use Rattle.ruling.specs.Rules.{elseifRuling, elseRuling, endRuling}
 use Rattle.ruling.specs.declared.Standing.{Standing}

@@ -9,7 +9,7 @@ use Rattle.line.specs.Directives.{directiveOf}
 use Rattle.line.specs.declared.Directive.{Directive}
 use Rattle.line.specs.declared.Directive.the-variants.{Plain, If, Ifdef, Ifndef, Elseif, Else, Endif, Unknown}
 use Rattle.condition.specs.Conditions.{countOf}
-use Rattle.condition.specs.declared.Condition.{Condition}
+use Rattle.line.specs.declared.Condition.{Condition}
 use Rattle.ruling.specs.Rules.{elseifRuling, elseRuling, endRuling}
 use Rattle.nesting.specs.Groups.{Group, group}
 use Rattle.nesting.specs.Decide.{State, stop, decided}

@@ -1,11 +1,11 @@
--- No text is wrong with a number from 17 to 21, which lines have: reading meets 2 to 6, the rest of an expression 7 to 12, a condition 13, a
--- directive's text 22.
+-- No text is wrong with a number from 17 to 21, which lines have: a malformed table is 1, reading meets 2 to 6, the rest of an expression 7
+-- to 12, a condition 13, a directive's text 22.
 -- Assumes nothing.
 use Prim.Native.Nat.{ℕ, zero, suc, _+_, _-_, _≤_}
 use native.Mathlib.Omega.{arith}
-use mathlib.Core.Path.{_≡_, refl, sym, ap, _∙_}
+use mathlib.Core.Path.{_≡_, refl}
 use mathlib.Core.Logic.{inl, inr}
-use mathlib.Core.Bool.{Bool, true, false, not, _&&_, false≢true}
+use mathlib.Core.Bool.{Bool, true, false, not, _&&_}
 use mathlib.Core.List.{List, [], _∷_}
 use lib.ListN.{length, getD, take, drop}
 use lib.Dec.{eqb, ltb}
@@ -17,6 +17,7 @@ use Rattle.text.specs.declared.bytes.Class.{Class}
 use Rattle.text.specs.declared.bytes.Class.the-variants.{Initial, Digit, Quote, Blank, Operator, Dollar, Comment, Other}
 use Rattle.text.specs.declared.runs.Set.the-variants.{Word, Blanks}
 use Rattle.text.proofs.Laws.{pick-case}
+use Rattle.settings.specs.Table.{wellFormed}
 use Rattle.codes.specs.Spellings.{Spelling, words, symbols}
 use Rattle.codes.specs.Codes.{STRING, WIDE}
 use Rattle.literal.specs.Literal.{literal, isDecimal, isHexadecimal, hexadecimalOf, numberOf}
@@ -26,26 +27,25 @@ use Rattle.codes.specs.declared.Lexeme.the-variants.{Found, Wrong as Bad}
 use Rattle.token.specs.Tokens.{Token, Reading, readToken, readByte, readFrom, tooDeep, checkDepth, codesOf, reading}
 use Rattle.token.specs.declared.scan.Ending.{Ending}
 use Rattle.token.specs.declared.scan.Ending.the-variants.{Complete, Refused}
-use Rattle.grammar.specs.Grammar.{Tree, Leaf, Unary, Binary, Choice}
+use Rattle.grammar.specs.Grammar.{Tree}
 use Rattle.grammar.specs.Fold.{fold}
 use Rattle.grammar.specs.Bars.{barOutside}
 use Rattle.grammar.specs.Parse.{Outcome, refused as underived, accepted, parse}
 use Rattle.grammar.proofs.Decided.{evaluates}
 use Rattle.value.specs.Values.{Value, number, string, wide, fault}
 use Rattle.value.specs.Attributes.{Attributes}
-use Rattle.value.specs.Settled.{Late, Suits, Settles}
+use Rattle.soundness.specs.Settled.{Late, Suits, Settles}
 use Rattle.value.specs.declared.Kind.{Kind}
-use Rattle.value.specs.declared.Kind.the-variants.{Clash}
-use Rattle.value.proofs.Settled.{primary-settles, unary-settles, binary-settles, choice-settles}
 use Rattle.expression.specs.Meaning.{codeOf, meaning}
-use Rattle.evaluation.specs.Evaluation.{Evaluation, value, refused, finished, clashes, judged, tokenIn, concluded, ofTokens, ended, inSoundTable}
-use Rattle.evaluation.proofs.Answered.{tokens-read}
+use Rattle.evaluation.specs.Evaluation.{Evaluation, value, refused, finished, clashes, judged, tokenIn, concluded, ofTokens, ended, evaluation}
+use Rattle.evaluation.proofs.FromTree.{tokens-read}
+use Rattle.answers.proofs.Answered.{settles, alive}
 use Rattle.line.specs.Directives.{directiveOf, textOf}
 use Rattle.line.specs.declared.Directive.{Directive}
 use Rattle.line.specs.declared.Directive.the-variants.{Plain, If, Ifdef, Ifndef, Elseif, Else, Endif, Unknown}
 use Rattle.condition.specs.Conditions.{spaced, idle, ofAnswer, expressionSays, nameAt, alone, absent, namedSays, nameSays, says}
-use Rattle.condition.specs.declared.Condition.{Condition}
-use Rattle.condition.specs.declared.Condition.the-variants.{Holds, Fails, Wrong}
+use Rattle.line.specs.declared.Condition.{Condition}
+use Rattle.line.specs.declared.Condition.the-variants.{Holds, Fails, Wrong}
 use Rattle.condition.specs.declared.macros.Named.{Named}
 use Rattle.ruling.specs.Standings.{reads}
 use Rattle.nesting.specs.Groups.{Group, standingOf}
@@ -151,14 +151,6 @@ abbrev InAnswer : Evaluation → Type 0
 InAnswer (value v n) = Unit
 InAnswer (refused r) = Other-than (r .number)
 
-settles : (e t : List ℕ) (s : Tree Token) → Settles (fold (meaning e t) s)
-unfolding fold
-settles e t (Leaf k) = primary-settles e t k
-settles e t (Unary o s) = unary-settles (o .code) (fold (meaning e t) s) (settles e t s)
-settles e t (Binary o l r) = binary-settles (o .code) (fold (meaning e t) l) (fold (meaning e t) r) (settles e t l) (settles e t r)
-settles e t (Choice q c a b) =
-    choice-settles (fold (meaning e t) c) (fold (meaning e t) a) (fold (meaning e t) b) (settles e t c) (settles e t a) (settles e t b)
-
 late : (n : ℕ) → Late n → Other-than n
 late n (inl h) a b = omega arith
 late n (inr h) a b = omega arith
@@ -169,9 +161,6 @@ in-finished k (string p s) n h = tt
 in-finished k (wide p s) n h = tt
 in-finished k (fault r) n h = late r h
 
-alive : (k : Kind) → clashes k ≡ false → k ≡ Clash → ⊥
-alive k h e = let z = ap clashes e in let y : true ≡ false = sym z ∙ h in false≢true (sym y)
-
 in-judged : (bar : Bool) (a : Attributes) → Settles a → InAnswer (judged bar a)
 in-judged bar a h =
     pick-case InAnswer bar (λ _ a b. omega arith)
@@ -179,9 +168,9 @@ in-judged bar a h =
     (λ _. pick-case InAnswer (clashes (a .kind)) (λ _ a b. omega arith)
     (λ c. in-finished (a .kind) (a .value) (a .count) (h (alive (a .kind) c)))))
 
-in-answer : (e t : List ℕ) → InAnswer (inSoundTable e t)
-unfolding inSoundTable ofTokens
-in-answer e t = by (reading e .ending) (in-reading e)
+in-answer : (e t : List ℕ) → InAnswer (evaluation e t)
+unfolding evaluation ofTokens
+in-answer e t = pick-case InAnswer (wellFormed t) (λ _. by (reading e .ending) (in-reading e)) (λ _ a b. omega arith)
   where
     parsed : (o : Outcome Attributes) → parse codeOf (meaning e t) (tokenIn (reading e .tokens)) (length (reading e .tokens)) ≡ o
         → InAnswer (concluded (codesOf (reading e .tokens)) o)
@@ -213,7 +202,7 @@ of-answer (refused r) h = h
 
 in-expression : (t s : List ℕ) → InCondition (expressionSays t s)
 unfolding expressionSays
-in-expression t s = pick-case InCondition (spaced s) (λ _. of-answer (inSoundTable s t) (in-answer s t)) (λ _ a b. omega arith)
+in-expression t s = pick-case InCondition (spaced s) (λ _. of-answer (evaluation s t) (in-answer s t)) (λ _ a b. omega arith)
 
 in-named : (t : List ℕ) (wanted : Bool) (s : List ℕ) (n : Named) → InCondition (namedSays t wanted s n)
 unfolding namedSays

@@ -11,8 +11,8 @@ use Rattle.line.specs.Directives.{directiveOf}
 use Rattle.line.specs.declared.Directive.{Directive}
 use Rattle.line.specs.declared.Directive.the-variants.{Plain, If, Ifdef, Ifndef, Elseif, Else, Endif, Unknown}
 use Rattle.condition.specs.Conditions.{countOf}
-use Rattle.condition.specs.declared.Condition.{Condition}
-use Rattle.condition.specs.declared.Condition.the-variants.{Holds, Fails, Wrong}
+use Rattle.line.specs.declared.Condition.{Condition}
+use Rattle.line.specs.declared.Condition.the-variants.{Holds, Fails, Wrong}
 use Rattle.ruling.specs.Standings.{live}
 use Rattle.text.specs.Bytes.{pick}
 use Rattle.nesting.specs.Groups.{Group, standingOf}

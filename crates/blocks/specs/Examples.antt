@@ -10,7 +10,7 @@ use Rattle.text.specs.Bytes.{bytes, classOf}
 use Rattle.text.specs.Runs.{span}
 use Rattle.text.specs.Order.{compared}
 use Rattle.text.specs.Names.{macroName, pcdName}
-use Rattle.settings.specs.Table.{recordsIn, sound, ascending, wellFormed}
+use Rattle.settings.specs.Table.{recordsIn, zeros, isName, soundName, soundKind, soundRecord, sound, ascending, wellFormed}
 use Rattle.lookup.specs.Setting.{littleEndian, held, underAt, under}
 use Rattle.literal.specs.Literal.{digitOf, valueIn, literal, isDecimal, isHexadecimal, hexadecimalOf, numberOf}
 use Rattle.lexeme.specs.Lexeme.{stringOf, stringAt, spelled, isWide, wordOf, macroOf, begins, leading, lexemeBy, lexeme}
@@ -22,7 +22,7 @@ use Rattle.grammar.specs.Parse.{run as runGoal, parse}
 use Rattle.grammar.specs.Bars.{barOutside}
 use Rattle.value.specs.Kinds.{unaryKind, binaryKind, choiceKind}
 use Rattle.value.specs.Values.{primaryValue, missingPcd, unaryValue, bothValues, binaryValue, choiceValue}
-use Rattle.evaluation.specs.Evaluation.{inSoundTable, ofTokens}
+use Rattle.evaluation.specs.Evaluation.{evaluation, ofTokens}
 use Rattle.line.specs.Lines.{onto, endsLine, lines}
 use Rattle.line.specs.Directives.{named, wordStart, textStart, directiveOf}
 use Rattle.condition.specs.Conditions.{idle, ofAnswer, expressionSays, nameAt, namedSays, nameSays, says}
@@ -68,7 +68,7 @@ whole-derives = record { lines = refl; words = (refl, (refl, tt), (refl, (refl, 
 pub meanings-hold : _≡_ {A = List Meaning}
     (meaning (setting "FOO" 61 2) true whole ∷ meaning (setting "FOO" 61 3) true whole ∷ meaning [] true dead ∷ [])
     (means (4 ∷ 1 ∷ 2 ∷ 0 ∷ 3 ∷ 0 ∷ 5 ∷ 1 ∷ []) 1 ∷ fault DIVISOR-ZERO 2 ∷ means (3 ∷ 2 ∷ 0 ∷ 2 ∷ 0 ∷ 2 ∷ 2 ∷ 4 ∷ 1 ∷ 5 ∷ []) 0 ∷ [])
-unfolding meaning named wordStart textStart directiveOf says expressionSays nameSays namedSays nameAt idle ofAnswer inSoundTable ofTokens barOutside recordsIn littleEndian held underAt under reading readToken readByte readFrom tooDeep checkDepth classOf span compared macroName pcdName digitOf valueIn literal isDecimal isHexadecimal hexadecimalOf numberOf stringOf stringAt spelled isWide wordOf macroOf begins leading lexemeBy lexeme isPrimary isUnary levelOf runGoal parse unaryKind binaryKind choiceKind andDigits orDigits changed applied comparison numbers primaryValue missingPcd unaryValue bothValues binaryValue choiceValue
+unfolding meaning named wordStart textStart directiveOf says expressionSays nameSays namedSays nameAt idle ofAnswer evaluation ofTokens barOutside recordsIn zeros isName soundName soundKind soundRecord sound ascending wellFormed littleEndian held underAt under reading readToken readByte readFrom tooDeep checkDepth classOf span compared macroName pcdName digitOf valueIn literal isDecimal isHexadecimal hexadecimalOf numberOf stringOf stringAt spelled isWide wordOf macroOf begins leading lexemeBy lexeme isPrimary isUnary levelOf runGoal parse unaryKind binaryKind choiceKind andDigits orDigits changed applied comparison numbers primaryValue missingPcd unaryValue bothValues binaryValue choiceValue
 meanings-hold = refl
 
 -- which of their lines are read
@@ -77,7 +77,7 @@ pub readings-hold : _≡_ {A = List (List Bool)}
     ((true ∷ false ∷ false ∷ false ∷ true ∷ false ∷ true ∷ false ∷ [])
     ∷ (true ∷ false ∷ false ∷ false ∷ false ∷ false ∷ false ∷ true ∷ false ∷ true ∷ [])
     ∷ [])
-unfolding readsOf named wordStart textStart directiveOf says expressionSays nameSays namedSays nameAt idle ofAnswer inSoundTable ofTokens barOutside recordsIn littleEndian held underAt under reading readToken readByte readFrom tooDeep checkDepth classOf span compared macroName pcdName digitOf valueIn literal isDecimal isHexadecimal hexadecimalOf numberOf stringOf stringAt spelled isWide wordOf macroOf begins leading lexemeBy lexeme isPrimary isUnary levelOf runGoal parse unaryKind binaryKind choiceKind andDigits orDigits changed applied comparison numbers primaryValue missingPcd unaryValue bothValues binaryValue choiceValue
+unfolding readsOf named wordStart textStart directiveOf says expressionSays nameSays namedSays nameAt idle ofAnswer evaluation ofTokens barOutside recordsIn zeros isName soundName soundKind soundRecord sound ascending wellFormed littleEndian held underAt under reading readToken readByte readFrom tooDeep checkDepth classOf span compared macroName pcdName digitOf valueIn literal isDecimal isHexadecimal hexadecimalOf numberOf stringOf stringAt spelled isWide wordOf macroOf begins leading lexemeBy lexeme isPrimary isUnary levelOf runGoal parse unaryKind binaryKind choiceKind andDigits orDigits changed applied comparison numbers primaryValue missingPcd unaryValue bothValues binaryValue choiceValue
 readings-hold = refl
 
 pub two-elses-refused : (run [] 1 start (lines twoElses) ≡ refused DIRECTIVE-STRAY 4) × (selection twoElses [] 6 ≡ refused DIRECTIVE-STRAY 4)

@@ -8,8 +8,8 @@ use Rattle.text.specs.Bytes.{pick}
 use Rattle.line.specs.Directives.{directiveOf, textOf}
 use Rattle.line.specs.declared.Directive.the-variants.{Elseif, Else, Endif}
 use Rattle.condition.specs.Conditions.{says}
-use Rattle.condition.specs.declared.Condition.{Condition}
-use Rattle.condition.specs.declared.Condition.the-variants.{Holds, Fails, Wrong}
+use Rattle.line.specs.declared.Condition.{Condition}
+use Rattle.line.specs.declared.Condition.the-variants.{Holds, Fails, Wrong}
 use Rattle.blocks.specs.Blocks.{Blocks, empty, line, group, Branches, endif, elseif, else}
 
 -- The marks of lines and their count of operators; or the number of the first fault and how many of the lines come before it. Marks: 0

@@ -6,8 +6,8 @@ use mathlib.Core.List.{List, [], _∷_, _++_}
 use Rattle.line.specs.Directives.{directiveOf, textOf}
 use Rattle.line.specs.declared.Directive.the-variants.{Elseif}
 use Rattle.condition.specs.Conditions.{says}
-use Rattle.condition.specs.declared.Condition.{Condition}
-use Rattle.condition.specs.declared.Condition.the-variants.{Holds, Fails, Wrong}
+use Rattle.line.specs.declared.Condition.{Condition}
+use Rattle.line.specs.declared.Condition.the-variants.{Holds, Fails, Wrong}
 use Rattle.blocks.specs.Blocks.{Blocks, empty, line, group, Branches, endif, elseif, else}
 
 -- whether a condition lets its branch be taken

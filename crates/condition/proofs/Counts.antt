@@ -1,7 +1,7 @@
 -- A condition's count of operators is below 200, the most tokens that an expression has. Assumes nothing.
 use Prim.Native.Nat.{ℕ, _<_}
 use native.Mathlib.Omega.{arith}
-use mathlib.Core.Path.{_≡_, refl, _∙_}
+use mathlib.Core.Path.{_≡_, refl}
 use mathlib.Core.Bool.{Bool, true, false, not}
 use mathlib.Core.List.{List}
 use lib.Dec.{eqb}
@@ -10,16 +10,15 @@ use Rattle.text.specs.Bytes.{pick}
 use Rattle.text.specs.Runs.{span}
 use Rattle.text.specs.declared.runs.Set.the-variants.{Blanks}
 use Rattle.text.proofs.Laws.{pick-case}
-use Rattle.settings.specs.Table.{wellFormed}
 use Rattle.token.proofs.Reading.{most-tokens}
 use Rattle.value.specs.Values.{Value, number, string, wide, fault}
-use Rattle.evaluation.specs.Evaluation.{Evaluation, value, refused, inSoundTable, evaluation}
-use Rattle.evaluation.proofs.Answered.{counted}
+use Rattle.evaluation.specs.Evaluation.{Evaluation, value, refused, evaluation}
+use Rattle.evaluation.proofs.FromTree.{counted}
 use Rattle.line.specs.declared.Directive.{Directive}
 use Rattle.line.specs.declared.Directive.the-variants.{Plain, If, Ifdef, Ifndef, Elseif, Else, Endif, Unknown}
 use Rattle.condition.specs.Conditions.{countOf, spaced, idle, ofAnswer, expressionSays, nameAt, tested, alone, absent, namedSays, nameSays, says}
 use Rattle.condition.specs.declared.macros.Named.{Named}
-use Rattle.condition.specs.declared.Condition.{Condition}
+use Rattle.line.specs.declared.Condition.{Condition}
 
 abbrev Small : Condition → Type 0
 Small c = countOf c < 200
@@ -35,18 +34,13 @@ of-answer (value (wide p s) n) h = omega arith
 of-answer (value (fault r) n) h = omega arith
 of-answer (refused r) h = omega arith
 
--- over a well-formed table
-module _ (t s : List ℕ) (h : wellFormed t ≡ true) where
-  evaluated : evaluation s t ≡ inSoundTable s t
-  unfolding evaluation
-  evaluated = rw h
-
-  answered : (v : Value) (n : ℕ) → inSoundTable s t ≡ value v n → n < 200
-  answered v n e = omega (arith, counted s t v n (evaluated ∙ e), most-tokens s)
+module _ (t s : List ℕ) where
+  answered : (v : Value) (n : ℕ) → evaluation s t ≡ value v n → n < 200
+  answered v n e = omega (arith, counted s t v n e, most-tokens s)
 
   expression-small : Small (expressionSays t s)
   unfolding expressionSays
-  expression-small = pick-case Small (spaced s) (λ _. of-answer (inSoundTable s t) answered) (λ _. omega arith)
+  expression-small = pick-case Small (spaced s) (λ _. of-answer (evaluation s t) answered) (λ _. omega arith)
 
 tested-small : (b : Bool) → Small (tested b)
 tested-small b = pick-case Small b (λ _. omega arith) (λ _. omega arith)
@@ -66,13 +60,13 @@ nothing-small : (t s : List ℕ) → Small (says t Else s)
 unfolding says
 nothing-small t s = pick-case Small (idle s) (λ _. omega arith) (λ _. omega arith)
 
-pub count-small : (t : List ℕ) (d : Directive) (s : List ℕ) → wellFormed t ≡ true → countOf (says t d s) < 200
+pub count-small : (t : List ℕ) (d : Directive) (s : List ℕ) → countOf (says t d s) < 200
 unfolding says
-count-small t If s h = expression-small t s h
-count-small t Elseif s h = expression-small t s h
-count-small t Ifdef s h = name-small t true s
-count-small t Ifndef s h = name-small t false s
-count-small t Else s h = nothing-small t s
-count-small t Endif s h = nothing-small t s
-count-small t Plain s h = omega arith
-count-small t Unknown s h = omega arith
+count-small t If s = expression-small t s
+count-small t Elseif s = expression-small t s
+count-small t Ifdef s = name-small t true s
+count-small t Ifndef s = name-small t false s
+count-small t Else s = nothing-small t s
+count-small t Endif s = nothing-small t s
+count-small t Plain s = omega arith
+count-small t Unknown s = omega arith

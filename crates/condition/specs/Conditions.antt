@@ -12,11 +12,11 @@ use Rattle.text.specs.Names.{macroName}
 use Rattle.text.specs.declared.runs.Set.the-variants.{Blanks}
 use Rattle.lookup.specs.Setting.{under}
 use Rattle.value.specs.Values.{number, string, wide, fault, isMissing}
-use Rattle.evaluation.specs.Evaluation.{Evaluation, value, refused, inSoundTable}
+use Rattle.evaluation.specs.Evaluation.{Evaluation, value, refused, evaluation}
 use Rattle.line.specs.declared.Directive.{Directive}
 use Rattle.line.specs.declared.Directive.the-variants.{Plain, If, Ifdef, Ifndef, Elseif, Else, Endif, Unknown}
-use Rattle.condition.specs.declared.Condition.{Condition}
-use Rattle.condition.specs.declared.Condition.the-variants.{Holds, Fails, Wrong}
+use Rattle.line.specs.declared.Condition.{Condition}
+use Rattle.line.specs.declared.Condition.the-variants.{Holds, Fails, Wrong}
 use Rattle.condition.specs.declared.macros.Named.{Named}
 
 -- how many operators were applied, none with a refusal
@@ -47,7 +47,7 @@ ofAnswer (refused r) = Wrong (r .number)
 
 -- `!if` and `!elseif`: the argument is all of the text
 unfoldable pub expressionSays : (t : List ℕ) → List ℕ → Condition
-expressionSays t s = pick (spaced s) (ofAnswer (inSoundTable s t)) (Wrong TEXT-MALFORMED)
+expressionSays t s = pick (spaced s) (ofAnswer (evaluation s t)) (Wrong TEXT-MALFORMED)
 
 -- a macro's name at the front of a text: where it starts, how long it is, 0 where none stands there, and where the text goes on
 abbrev pub nameOver : (start len after : ℕ) → Named

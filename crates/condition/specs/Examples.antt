@@ -22,12 +22,12 @@ use Rattle.grammar.specs.Parse.{run, parse}
 use Rattle.grammar.specs.Bars.{barOutside}
 use Rattle.value.specs.Kinds.{unaryKind, binaryKind, choiceKind}
 use Rattle.value.specs.Values.{primaryValue, missingPcd, unaryValue, bothValues, binaryValue, choiceValue}
-use Rattle.evaluation.specs.Evaluation.{inSoundTable, ofTokens}
+use Rattle.evaluation.specs.Evaluation.{evaluation, ofTokens}
 use Rattle.line.specs.declared.Directive.{Directive}
 use Rattle.line.specs.declared.Directive.the-variants.{If, Ifdef, Ifndef, Elseif, Else, Endif}
 use Rattle.condition.specs.Conditions.{idle, ofAnswer, expressionSays, nameAt, namedSays, nameSays, says}
-use Rattle.condition.specs.declared.Condition.{Condition}
-use Rattle.condition.specs.declared.Condition.the-variants.{Holds, Fails, Wrong}
+use Rattle.line.specs.declared.Condition.{Condition}
+use Rattle.line.specs.declared.Condition.the-variants.{Holds, Fails, Wrong}
 
 -- a directive, the text after its word, and what it says
 pub record Example : Type 0 where
@@ -53,7 +53,7 @@ conditions =
     ∷ []
 
 conditions-hold : map (λ x. says [] (x .directive) (bytes (x .text))) conditions ≡ map (λ x. x .condition) conditions
-unfolding says expressionSays ofAnswer inSoundTable ofTokens barOutside reading readToken readByte readFrom tooDeep checkDepth classOf span compared macroName pcdName digitOf valueIn literal isDecimal isHexadecimal hexadecimalOf numberOf stringOf stringAt spelled isWide wordOf macroOf begins leading lexemeBy lexeme isPrimary isUnary levelOf run parse unaryKind binaryKind choiceKind andDigits orDigits changed applied comparison numbers primaryValue missingPcd unaryValue bothValues binaryValue choiceValue
+unfolding says expressionSays ofAnswer evaluation ofTokens barOutside recordsIn sound ascending wellFormed reading readToken readByte readFrom tooDeep checkDepth classOf span compared macroName pcdName digitOf valueIn literal isDecimal isHexadecimal hexadecimalOf numberOf stringOf stringAt spelled isWide wordOf macroOf begins leading lexemeBy lexeme isPrimary isUnary levelOf run parse unaryKind binaryKind choiceKind andDigits orDigits changed applied comparison numbers primaryValue missingPcd unaryValue bothValues binaryValue choiceValue
 conditions-hold = refl
 
 -- names that the table does not have, one too long for any table, texts that are no name, and directives that take none

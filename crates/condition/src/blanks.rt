@@ -1,5 +1,5 @@
 // Blanks and comments: before an argument, after it, and in place of one.
-use crate::Condition;
+use line::Condition;
 use text::bytes;
 use text::runs;
 use text::runs::Set;

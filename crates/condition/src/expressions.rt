@@ -1,9 +1,9 @@
 // `!if` and `!elseif`: an expression's answer as a condition.
-use crate::Condition;
 use crate::blanks;
 use evaluation::Answer;
 use evaluation::Value;
 use evaluation::outcome;
+use line::Condition;
 ghost use mathlib.Core.Path.{_≡_};
 ghost use mathlib.Core.Bool.{true};
 ghost use mathlib.Core.List.{List};

@@ -3,18 +3,12 @@ mod blanks;
 mod expressions;
 mod macros;
 
+use line::Condition;
 use line::Directive;
 ghost use mathlib.Core.Path.{_≡_};
 ghost use mathlib.Core.Bool.{true};
 ghost use Rattle.settings.specs.Table.{wellFormed};
 ghost use Rattle.condition.specs.Conditions.{says as saidBy};
-
-// Whether the branch is taken, with the count of operators, or the number of the refusal.
-pub enum Condition {
-    Holds(usize),
-    Fails(usize),
-    Wrong(u8),
-}
 
 // What the text after a directive's word says. What it is for a line that is plain, or whose word is unknown, is fixed too, so that any
 // line may be asked.

@@ -1,6 +1,6 @@
 // `!ifdef` and `!ifndef`: one macro's name.
-use crate::Condition;
 use crate::blanks;
+use line::Condition;
 use text::bytes;
 use text::names;
 use text::parts;

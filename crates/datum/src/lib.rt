@@ -1,5 +1,5 @@
 // The bytes of one PCD data field: a number, a string or a wide string at the front of a lent buffer, or a refusal.
-pub mod codes;
+pub mod types;
 mod sizes;
 mod store;
 
@@ -28,10 +28,10 @@ fn refused(number: u8) -> Written
 pub fn number(buffer: &mut [u8], datum: u8, x: u64) -> Written
     ensures { λ r. ⌜ Writes (fitted (numberField datum x) (now (buffer .entry))) r (now (buffer .exit)) ⌝ }
 {
-    if codes::UINT64 < datum {
+    if types::UINT64 < datum {
         return refused(units::DATUM_UNKNOWN);
     }
-    if datum == codes::VOID {
+    if datum == types::VOID {
         return refused(units::DATUM_KIND);
     }
     if sizes::most_of(datum) < x {
@@ -49,10 +49,10 @@ pub fn number(buffer: &mut [u8], datum: u8, x: u64) -> Written
 fn unsuited(datum: u8) -> u8
     ensures { λ r. ⌜ ((s : List ℕ) → stringField datum s ≡ pick (eqb r 0) (bytes s) (unfit r)) ⌝ }
 {
-    if codes::UINT64 < datum {
+    if types::UINT64 < datum {
         return units::DATUM_UNKNOWN;
     }
-    if datum == codes::VOID {
+    if datum == types::VOID {
         0
     } else {
         units::DATUM_KIND

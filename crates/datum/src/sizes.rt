@@ -1,5 +1,5 @@
 // The bytes of a datum's numbers, and the largest of them.
-use crate::codes;
+use crate::types;
 ghost use mathlib.Core.Path.{_≡_};
 ghost use Prim.Native.Nat.{_+_};
 ghost use Rattle.datum.specs.Encoding.{widthOf, limitOf};
@@ -9,9 +9,9 @@ pub fn width_of(datum: u8) -> usize
     ensures { λ r. ⌜ r ≡ widthOf datum ⌝ }
 {
     match datum {
-        codes::UINT16 => 2,
-        codes::UINT32 => 4,
-        codes::UINT64 => 8,
+        types::UINT16 => 2,
+        types::UINT32 => 4,
+        types::UINT64 => 8,
         _ => 1,
     }
 }
@@ -21,10 +21,10 @@ pub fn most_of(datum: u8) -> u64
     ensures { λ r. ⌜ r + 1 ≡ limitOf datum ⌝ }
 {
     match datum {
-        codes::BOOLEAN => 1,
-        codes::UINT16 => 0xffff,
-        codes::UINT32 => 0xffff_ffff,
-        codes::UINT64 => 0xffff_ffff_ffff_ffff,
+        types::BOOLEAN => 1,
+        types::UINT16 => 0xffff,
+        types::UINT32 => 0xffff_ffff,
+        types::UINT64 => 0xffff_ffff_ffff_ffff,
         _ => 0xff,
     }
 }

@@ -8,6 +8,7 @@ use lib.ListN.{length, getD, take, drop, length-map, List·getD-eq-default}
 use lib.Seq.{sets-eq, take-at, length-sets}
 use lib.Dec.{ltb}
 use borrow.Author.Tests.{ltb-true, ltb-false}
+use Rattle.settings.specs.Table.{wellFormed}
 use Rattle.text.specs.Parts.{stored}
 use Rattle.token.specs.Tokens.{Token, Reading, codesOf, reading, Stored}
 use Rattle.token.specs.Steps.{Room}
@@ -16,7 +17,7 @@ use Rattle.token.proofs.Reading.{most-tokens}
 use Rattle.grammar.specs.Parse.{parse}
 use Rattle.expression.specs.Meaning.{codeOf, meaning}
 use Rattle.expression.specs.Parsing.{tokenAt, Holding}
-use Rattle.evaluation.specs.Evaluation.{END-TOKEN, tokenIn, concluded, ofTokens, inSoundTable}
+use Rattle.evaluation.specs.Evaluation.{END-TOKEN, tokenIn, concluded, ofTokens, evaluation}
 
 -- one entry of each token, stored in a list that has room
 module _ (f : Token → ℕ) (ts : List Token) (l l′ : List ℕ) (fits : length ts ≤ length l) (so : l′ ≡ stored (map f ts) l) where
@@ -78,14 +79,14 @@ module _ (e t : List ℕ) {cs₀ ss₀ ls₀ vs₀ cs ss ls vs : List ℕ} (room
           values = omega (arith, c, room .values-hold, kept (λ k. k .value) vs₀ vs (so .values-are));
         }
 
-    -- where reading met no refusal, the answer to the arrays is the answer to the expression
-    pub answers : (n : ℕ) → n ≡ length (reading e .tokens) → reading e .ending ≡ Complete
-        → concluded (take n cs) (parse codeOf (meaning e t) (tokenAt cs ss ls vs n) n) ≡ inSoundTable e t
-    unfolding inSoundTable ofTokens
-    answers n c y =
+    -- where the table is well formed and reading met no refusal, the answer to the arrays is the answer to the expression
+    pub answers : wellFormed t ≡ true → (n : ℕ) → n ≡ length (reading e .tokens) → reading e .ending ≡ Complete
+        → concluded (take n cs) (parse codeOf (meaning e t) (tokenAt cs ss ls vs n) n) ≡ evaluation e t
+    unfolding evaluation ofTokens
+    answers sound n c y =
         let codes = codes-read (reading e) cs₀ ss₀ ls₀ vs₀ cs ss ls vs so (room .codes-hold) (room .starts-hold) (room .lens-hold) (room .values-hold) in
         let tokens = tokens-read (reading e) cs₀ ss₀ ls₀ vs₀ cs ss ls vs so (room .codes-hold) (room .starts-hold) (room .lens-hold) (room .values-hold) in
-        rw (c, y, codes, tokens)
+        rw (sound, c, y, codes, tokens)
 
 -- as many entries as bytes, or 200, are room enough
 pub room-of : (e : List ℕ) {cs ss ls vs : List ℕ} (most : ℕ) → length (reading e .tokens) ≤ most

@@ -1,6 +1,3 @@
 pub mod Depth
 pub mod Arrays
-pub mod Answered
-pub mod Placed
-pub mod LineZero
-pub mod Isolated
+pub mod FromTree

@@ -1,6 +1,6 @@
 -- The answer to an expression (document 01, "Kinds and values" and "Refusal numbers"): its value and how many operators were applied,
 -- or a refusal. The order of refusals: 1; 2; 3, 4 and 5 as reading meets them; 6; 7; 8; 9; 10; and last what evaluation itself meets, 11
--- or 12. The definition computes, so it goes through the parser; Answers.antt says what it amounts to in terms of derivations alone.
+-- or 12. The definition computes, so it goes through the parser; answers/specs/Answers.antt says what it amounts to in terms of derivations alone.
 use Prim.Native.Nat.{ℕ}
 use mathlib.Core.Path.{_≡_}
 use mathlib.Core.Bool.{Bool}
@@ -78,13 +78,11 @@ abbrev pub ended : Ending → Evaluation → Evaluation
 ended (Refused r) x = refused r
 ended Complete x = x
 
--- the answer over a table that is well formed
-unfoldable pub inSoundTable : (e t : List ℕ) → Evaluation
-inSoundTable e t = let given = ofTokens e t (reading e .tokens) in ended (reading e .ending) given
-
 -- the answer to an expression e over a table t
 unfoldable pub evaluation : (e t : List ℕ) → Evaluation
-evaluation e t = let given = inSoundTable e t in pick (wellFormed t) given (refusedWith TABLE-MALFORMED)
+evaluation e t =
+    let given = ofTokens e t (reading e .tokens) in
+    pick (wellFormed t) (ended (reading e .ending) given) (refusedWith TABLE-MALFORMED)
 
 -- what the code's answer says: with a string's place go the bytes that stand there
 abbrev pub valueSaid : (e t : List ℕ) → Shown → Value

@@ -1,4 +1,1 @@
 pub mod Evaluation
-pub mod Answers
-pub mod Isolation
-pub mod Examples

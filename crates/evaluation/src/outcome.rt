@@ -21,10 +21,10 @@ ghost use Rattle.settings.specs.Table.{wellFormed};
 ghost use Rattle.token.specs.Tokens.{reading};
 ghost use Rattle.token.specs.Steps.{Room};
 ghost use Rattle.grammar.specs.Parse.{parse};
-ghost use Rattle.value.specs.Places.{meant, known};
+ghost use Rattle.value.specs.Denote.{meant, known};
 ghost use Rattle.expression.specs.Meaning.{codeOf, meaning};
 ghost use Rattle.expression.specs.Parsing.{tokenAt, Ready};
-ghost use Rattle.evaluation.specs.Evaluation.{refusedWith, finished, clashes as clashesOf, judged, concluded, inSoundTable, evaluation, stated, HandsBack};
+ghost use Rattle.evaluation.specs.Evaluation.{refusedWith, finished, clashes as clashesOf, judged, concluded, evaluation, stated, HandsBack};
 
 fn refused(number: u8) -> Answer
     ensures { λ r. ⌜ ((e t : List ℕ) → stated e t r ≡ refusedWith number) ⌝ }
@@ -107,7 +107,7 @@ fn in_room<'a>(
     table: &'a [u8],
 ) -> Answer
     requires { ⌜ (wellFormed (now table) ≡ true) × Room (reading (now expr)) (now codes) (now starts) (now lens) (now values) ⌝ }
-    ensures { λ r. ⌜ stated (now (expr .entry)) (now (table .entry)) r ≡ inSoundTable (now (expr .entry)) (now (table .entry)) ⌝ }
+    ensures { λ r. ⌜ stated (now (expr .entry)) (now (table .entry)) r ≡ evaluation (now (expr .entry)) (now (table .entry)) ⌝ }
 {
     let s = scan::tokens(codes, starts, lens, values, expr);
     let ending = s.ending;
@@ -124,7 +124,7 @@ const SHORT: usize = 32;
 // The answer over a table that is known to be well formed.
 pub fn in_sound_table<'a>(expr: &'a [u8], table: &'a [u8]) -> Answer
     requires { ⌜ wellFormed (now table) ≡ true ⌝ }
-    ensures { λ r. ⌜ stated (now (expr .entry)) (now (table .entry)) r ≡ inSoundTable (now (expr .entry)) (now (table .entry)) ⌝ }
+    ensures { λ r. ⌜ stated (now (expr .entry)) (now (table .entry)) r ≡ evaluation (now (expr .entry)) (now (table .entry)) ⌝ }
 {
     let mut codes = [0u8; 200];
     if expr.len() <= SHORT {

@@ -20,7 +20,7 @@ use Rattle.syntax.proofs.Orders.{ended}
 use Rattle.value.specs.Values.{skips}
 use Rattle.value.specs.Attributes.{Attributes, firstArm, unaryFrom, binaryFrom, choiceFrom}
 use Rattle.value.specs.declared.Known.{Known}
-use Rattle.value.specs.Places.{known}
+use Rattle.value.specs.Denote.{known}
 use Rattle.value.proofs.Laws.{skipped-most, chosen-most}
 use Rattle.expression.specs.Meaning.{codeOf, meaning}
 use Rattle.expression.specs.Parsing.{tokenAt}

@@ -12,7 +12,7 @@ use Rattle.grammar.specs.Grammar.{expression}
 use Rattle.grammar.specs.Parse.{Result, bad, got, find, Yields}
 use Rattle.syntax.specs.Order.{codeAt}
 use Rattle.value.specs.Attributes.{Attributes}
-use Rattle.value.specs.Places.{known}
+use Rattle.value.specs.Denote.{known}
 use Rattle.expression.specs.Meaning.{codeOf, meaning}
 use Rattle.expression.specs.declared.Parsed.{Parsed}
 use Rattle.expression.specs.declared.Parsed.the-variants.{Bad, Got}

@@ -9,7 +9,7 @@ use Rattle.codes.specs.Codes.{QUESTION}
 use Rattle.grammar.specs.Grammar.{isPrimary}
 use Rattle.value.specs.Attributes.{Attributes, primaryOf, unaryFrom, binaryFrom, choiceFrom}
 use Rattle.value.specs.declared.Known.{Known}
-use Rattle.value.specs.Places.{known}
+use Rattle.value.specs.Denote.{known}
 use Rattle.syntax.specs.Order.{codeAt, UNARY, FILLER}
 use Rattle.expression.specs.Parsing.{tokenAt, Ready}
 

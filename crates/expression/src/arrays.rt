@@ -3,7 +3,7 @@ use units::TokenNumber;
 use value::attributes::Lexical;
 ghost use mathlib.Core.Path.{_≡_};
 ghost use Prim.Native.Nat.{_<_};
-ghost use Rattle.value.specs.Places.{tokenOf};
+ghost use Rattle.value.specs.Denote.{tokenOf};
 ghost use Rattle.expression.specs.Parsing.{tokenAt, Holding};
 
 pub fn token_at(

@@ -6,7 +6,7 @@ use lib.ListN.{length}
 use lib.Dec.{leb}
 use Rattle.text.proofs.Laws.{pick-case}
 use Rattle.evaluation.specs.Evaluation.{Evaluation, value, refused, lineOf as lineOfEvaluation, evaluation}
-use Rattle.evaluation.proofs.LineZero.{without-line as expression-without-line}
+use Rattle.answers.proofs.LineZero.{without-line as expression-without-line}
 use Rattle.datum.specs.Encoding.{Encoding, unfit, bytes, Field, fitted}
 use Rattle.field.specs.Fields.{encoding, written, fieldOf, lineOf, WithoutLine}
 

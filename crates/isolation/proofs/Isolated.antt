@@ -2,42 +2,45 @@
 use Prim.Native.Nat.{ℕ, _+_, _≤_}
 use native.Mathlib.Omega.{arith}
 use mathlib.Core.Path.{_≡_, refl, sym, ap, _∙_}
+use mathlib.Core.Logic.{_↔_}
 use mathlib.Core.Bool.{Bool, true, false}
 use mathlib.Core.List.{List, [], _++_}
 use lib.ListN.{length, getD, take, drop}
 use lib.Seq.{take-at}
 use lib.Dec.{ltb}
 use Rattle.text.proofs.Laws.{pick-case}
+use Rattle.settings.specs.Table.{wellFormed}
 use Rattle.line.specs.Lines.{lines}
 use Rattle.line.specs.Directives.{directiveOf, textOf}
 use Rattle.condition.specs.Conditions.{says, countOf}
-use Rattle.condition.proofs.Isolated.{same-says}
 use Rattle.nesting.specs.Groups.{standingOf}
 use Rattle.ruling.specs.Standings.{reads}
-use Rattle.nesting.specs.Decide.{State}
+use Rattle.nesting.specs.Decide.{State, go}
 use Rattle.nesting.proofs.Decided.{Marked, Unmarked, read-marked, unread-marked}
 use Rattle.select.specs.Step.{heard, step}
-use Rattle.select.specs.Select.{Result, accepted, refused, start, selection, linesOf, Selects}
+use Rattle.select.specs.Select.{Result, accepted, refused, start, selection, numberOfLines, Selects}
 use Rattle.select.specs.declared.Answer.{Answer}
 use Rattle.select.specs.declared.Answer.the-variants.{Accepted}
-use Rattle.isolation.specs.Isolation.{MarksTell, Agrees, Isolation, TwoCalls}
+use Rattle.isolation.specs.Isolation.{Read, Agrees, Isolation, TwoCalls}
+use Rattle.isolation.proofs.SameSays.{same-says}
 use Rattle.isolation.proofs.Simulation.{Like, AllLike, same-run}
-use Rattle.select.proofs.Before.{runs, accepted-runs}
+use Rattle.select.proofs.Before.{runs, accepted-runs, accepted-sound}
 
 -- lines that agree are alike
-agree-like : (t₁ t₂ : List ℕ) (m : ℕ) (l₁ l₂ : List ℕ) → length l₂ ≤ 1024 → Agrees t₁ t₂ m l₁ l₂ → Like t₁ t₂ m l₁ l₂
-agree-like t₁ t₂ m l₁ l₂ h a =
+agree-like : (t₁ t₂ : List ℕ) → wellFormed t₁ ≡ true → wellFormed t₂ ≡ true
+    → (m : ℕ) (l₁ l₂ : List ℕ) → length l₂ ≤ 1024 → Agrees t₁ t₂ m l₁ l₂ → Like t₁ t₂ m l₁ l₂
+agree-like t₁ t₂ sound₁ sound₂ m l₁ l₂ h a =
     record {
       short = h;
       word = a .word;
-      said = λ r. ap (λ l. says t₂ (directiveOf l₁) (textOf l)) (a .bytes r) ∙ sym (same-says t₁ t₂ (textOf l₁) (directiveOf l₁) (a .records r));
+      said = λ r. ap (λ l. says t₂ (directiveOf l₁) (textOf l)) (a .bytes r) ∙ sym (same-says t₁ t₂ (textOf l₁) sound₁ sound₂ (directiveOf l₁) (a .records r));
     }
 
 pub isolation : Isolation
 isolation f₁ t₁ room₁ ms c h f₂ t₂ room₂ k =
     let p = accepted-runs f₁ t₁ room₁ ms c h in
     let like : AllLike t₁ t₂ ms (lines f₁) (lines f₂) = λ i l.
-    agree-like t₁ t₂ (getD ms i 0) (getD (lines f₁) i []) (getD (lines f₂) i []) (k .short i (omega (arith, k .as-many))) (k .agrees i l) in
+    agree-like t₁ t₂ (accepted-sound f₁ t₁ room₁ ms c h) (k .sound) (getD ms i 0) (getD (lines f₁) i []) (getD (lines f₂) i []) (k .short i (omega (arith, k .as-many))) (k .agrees i l) in
     runs f₂ t₂ room₂ (k .sound) (k .small) (omega (arith, p .1, k .as-many)) (k .enough)
     ∙ same-run t₁ t₂ 1 start (lines f₁) (lines f₂) ms c (k .as-many) like (p .0)
 
@@ -55,6 +58,11 @@ module _ (t : List ℕ) (n : ℕ) (s : State) (l : List ℕ) where
       pick-case Unmarked (ltb 1024 (length l)) (λ _. tt)
       (λ _. unread-marked (directiveOf l) (heard t (s .groups) l) n (s .count + countOf (heard t (s .groups) l)) (s .groups) h)
 
+-- of a step, by the standing of the innermost group
+abbrev pub MarksTell : Type 0
+MarksTell = (t : List ℕ) (n : ℕ) (s : State) (l : List ℕ) (m : ℕ) (s′ : State) → step t n s l ≡ go m s′
+    → (reads (directiveOf l) (standingOf (s .groups)) ≡ true) ↔ Read m
+
 pub marks-tell : MarksTell
 marks-tell t n s l m s′ e = (λ h. rw e at (read-above t n s l h), by (reads (directiveOf l) (standingOf (s .groups))) refl)
   where
@@ -71,7 +79,7 @@ accepted-call f t marks r left h n c e = by (selection f t (length marks)) refl
     by (refused k j) q = let z : _≡_ {A = ℕ} 0 1 = cc (h .answer) in absurd (omega arith)
     by (accepted ms d) q =
         let a : Accepted (record { 0 = n }) c ≡ Accepted (record { 0 = length ms }) d = sym e ∙ h .answer ∙ rw q in
-        let i : length ms ≡ n = ap linesOf (sym a) in
+        let i : length ms ≡ n = ap numberOfLines (sym a) in
         let j : c ≡ d = cc in
         let m : left ≡ ms ++ drop (length ms) marks = h .marks-are ∙ rw q in
         let k : take n left ≡ ms = ap (take n) m ∙ take-at ms (drop (length ms) marks) n i in

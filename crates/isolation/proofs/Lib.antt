@@ -1,2 +1,3 @@
+pub mod SameSays
 pub mod Simulation
 pub mod Isolated

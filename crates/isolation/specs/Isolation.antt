@@ -3,18 +3,13 @@
 -- proofs/Isolated.antt has the proof.
 use Prim.Native.Nat.{ℕ, _≤_, _<_}
 use mathlib.Core.Path.{_≡_}
-use mathlib.Core.Logic.{_↔_}
 use mathlib.Core.Bool.{true}
 use mathlib.Core.List.{List, []}
 use lib.ListN.{length, getD, take}
 use Rattle.settings.specs.Table.{wellFormed}
 use Rattle.line.specs.Lines.{lines}
 use Rattle.line.specs.Directives.{directiveOf, textOf}
-use Rattle.condition.specs.Naming.{SameRecords}
-use Rattle.nesting.specs.Groups.{standingOf}
-use Rattle.ruling.specs.Standings.{reads}
-use Rattle.nesting.specs.Decide.{State, go}
-use Rattle.select.specs.Step.{step}
+use Rattle.isolation.specs.Naming.{SameRecords}
 use Rattle.select.specs.Select.{MOST-FILE, accepted, selection, Selects}
 use Rattle.select.specs.declared.Answer.{Answer}
 use Rattle.select.specs.declared.Answer.the-variants.{Accepted}
@@ -23,11 +18,6 @@ use Rattle.select.specs.declared.Answer.the-variants.{Accepted}
 -- file in blocks/specs/Reading.antt; that the marks show just these is `MarksTellReading` in blocks/specs/Decides.antt.
 abbrev pub Read : (mark : ℕ) → Type 0
 Read m = 3 ≤ m
-
--- the same of a step, by the standing of the innermost group
-abbrev pub MarksTell : Type 0
-MarksTell = (t : List ℕ) (n : ℕ) (s : State) (l : List ℕ) (m : ℕ) (s′ : State) → step t n s l ≡ go m s′
-    → (reads (directiveOf l) (standingOf (s .groups)) ≡ true) ↔ Read m
 
 -- How a line l₂ of the second file agrees with the line l₁ of the same number, which the first run gave the mark m. Both are plain, or both
 -- have the same word, `elif` and `elseif` being one; a directive that was read is the same in both, and the tables agree on the records

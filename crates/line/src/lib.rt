@@ -21,3 +21,11 @@ pub struct Head {
     pub directive: Directive,
     pub text: Offset,
 }
+
+// What the text after a directive's word says: whether the branch is taken, with the count of operators, or the number of the refusal. The
+// crate `condition` says what it is of a text.
+pub enum Condition {
+    Holds(usize),
+    Fails(usize),
+    Wrong(u8),
+}

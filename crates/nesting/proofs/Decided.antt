@@ -10,8 +10,8 @@ use Rattle.text.specs.Bytes.{pick}
 use Rattle.text.proofs.Laws.{pick-case}
 use Rattle.line.specs.declared.Directive.{Directive}
 use Rattle.line.specs.declared.Directive.the-variants.{Plain, If, Ifdef, Ifndef, Elseif, Else, Endif, Unknown}
-use Rattle.condition.specs.declared.Condition.{Condition}
-use Rattle.condition.specs.declared.Condition.the-variants.{Holds, Fails, Wrong}
+use Rattle.line.specs.declared.Condition.{Condition}
+use Rattle.line.specs.declared.Condition.the-variants.{Holds, Fails, Wrong}
 use Rattle.nesting.specs.Groups.{Group, standingOf, closedOf}
 use Rattle.ruling.specs.Standings.{live, around, seeking, reads}
 use Rattle.ruling.specs.Rules.{unless, turned, elseifRuling, elseRuling, endRuling}

@@ -6,9 +6,10 @@ use mathlib.Core.Bool.{Bool, true, false}
 use mathlib.Core.List.{List, [], _∷_}
 use lib.ListN.{length, getD, set, length-set}
 use lib.Seq.{getD-set-same, getD-set-other}
+use lib.Dec.{leb}
 use Rattle.nesting.specs.Groups.{Group, group, standingOf, closedOf}
 use Rattle.nesting.specs.Decide.{State, state, turnTo, finalTo, closeOne}
-use Rattle.nesting.specs.Stack.{entryOf, standingIn, closedIn, packed, Lined, Represents}
+use Rattle.nesting.specs.Stack.{entryOf, standingIn, packed, Lined, Represents}
 use Rattle.ruling.specs.declared.Standing.{Standing}
 use Rattle.ruling.specs.declared.Standing.the-variants.{Outside, Dead, Seeking, Taken, Past}
 use Rattle.nesting.specs.declared.Selection.{Selection}
@@ -26,6 +27,10 @@ standing-told Taken true = refl
 standing-told Taken false = refl
 standing-told Past true = refl
 standing-told Past false = refl
+
+-- whether its `!else` was met
+abbrev closedIn : ℕ → Bool
+closedIn e = leb 8 e
 
 closed-told : (s : Standing) (b : Bool) → closedIn (entryOf s b) ≡ b
 closed-told Outside true = refl

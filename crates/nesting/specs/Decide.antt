@@ -9,8 +9,8 @@ use Rattle.units.specs.Refusals.{WORD-UNKNOWN, NESTING-DEEP}
 use Rattle.text.specs.Bytes.{pick}
 use Rattle.line.specs.declared.Directive.{Directive}
 use Rattle.line.specs.declared.Directive.the-variants.{Plain, If, Ifdef, Ifndef, Elseif, Else, Endif, Unknown}
-use Rattle.condition.specs.declared.Condition.{Condition}
-use Rattle.condition.specs.declared.Condition.the-variants.{Holds, Fails, Wrong}
+use Rattle.line.specs.declared.Condition.{Condition}
+use Rattle.line.specs.declared.Condition.the-variants.{Holds, Fails, Wrong}
 use Rattle.nesting.specs.Groups.{Group, group, standingOf, closedOf}
 use Rattle.ruling.specs.Standings.{live}
 use Rattle.ruling.specs.Rules.{DROPPED, KEPT, UNREAD, NOT-TAKEN, TAKEN, elseifRuling, elseRuling, endRuling}

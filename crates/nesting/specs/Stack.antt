@@ -5,7 +5,7 @@ use mathlib.Core.Path.{_≡_}
 use mathlib.Core.Bool.{Bool, true, false}
 use mathlib.Core.List.{List, [], _∷_}
 use lib.ListN.{length, getD}
-use lib.Dec.{eqb, leb}
+use lib.Dec.{eqb}
 use Rattle.text.specs.Bytes.{pick}
 use Rattle.nesting.specs.Groups.{Group, group}
 use Rattle.nesting.specs.Decide.{MOST-GROUPS, State, Outcome, go, stop}
@@ -34,9 +34,6 @@ standingIn e =
     (pick (eqb (e % 8) 2) Taken
     (pick (eqb (e % 8) 3) Past
     Outside)))
-
-abbrev pub closedIn : ℕ → Bool
-closedIn e = leb 8 e
 
 -- the digits of the open groups in base 16
 abbrev pub packed : List Group → ℕ

@@ -2,14 +2,14 @@
 use crate::Selection;
 use crate::Step;
 use crate::stack;
-use condition::Condition;
+use line::Condition;
 use line::Directive;
 use ruling::Standing;
 use units::LineNumber;
 ghost use Prim.Native.Nat.{_≤_, _<_};
 ghost use Rattle.nesting.specs.Decide.{State, plain as plainOf, opening, decided};
 ghost use Rattle.nesting.specs.Stack.{Represents, Meets};
-ghost use Rattle.condition.specs.declared.Condition.the-variants.{Fails};
+ghost use Rattle.line.specs.declared.Condition.the-variants.{Fails};
 
 // A new group in line n: 20 before anything its text says.
 fn open_group(c: Condition, n: LineNumber, x: Selection) -> Step

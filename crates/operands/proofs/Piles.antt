@@ -8,7 +8,7 @@ use lib.ListN.{length, set, length-set}
 use lib.Seq.{getD-set-same, getD-set-other}
 use Rattle.value.specs.Attributes.{Attributes}
 use Rattle.value.specs.declared.Known.{Known}
-use Rattle.value.specs.Places.{known}
+use Rattle.value.specs.Denote.{known}
 use Rattle.operands.specs.Numbers.{operandIn}
 use Rattle.operands.specs.Stack.{operandAt, piled, Leaves}
 

@@ -4,7 +4,7 @@ use mathlib.Core.Path.{_≡_}
 use mathlib.Core.List.{List, [], _∷_}
 use lib.ListN.{length, getD}
 use Rattle.value.specs.Attributes.{Attributes}
-use Rattle.value.specs.Places.{known}
+use Rattle.value.specs.Denote.{known}
 use Rattle.operands.specs.Numbers.{operandIn}
 
 -- an operand of the stack w, over an expression e and a table t, and its count of operators

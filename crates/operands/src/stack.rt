@@ -7,7 +7,7 @@ ghost use mathlib.Core.List.{List, []};
 ghost use Prim.Native.Nat.{ℕ, _+_, _≤_, _<_};
 ghost use lib.ListN.{length, getD};
 ghost use Rattle.value.specs.Attributes.{unaryFrom, binaryFrom, choiceFrom};
-ghost use Rattle.value.specs.Places.{known};
+ghost use Rattle.value.specs.Denote.{known};
 ghost use Rattle.operands.specs.Numbers.{operandIn};
 ghost use Rattle.operands.specs.Stack.{countAt, operandAt, Leaves};
 

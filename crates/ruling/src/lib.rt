@@ -1,5 +1,5 @@
 // Which directives are read, and what those inside a group make of it.
-use condition::Condition;
+use line::Condition;
 use line::Directive;
 ghost use mathlib.Core.Path.{_≡_};
 ghost use Rattle.ruling.specs.Standings.{live as liveOf, around as aroundOf, seeking as seekingOf, reads as readsOf};

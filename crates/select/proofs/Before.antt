@@ -10,7 +10,7 @@ use borrow.Author.Tests.{lt-ltb, le-ltb, ltb-false}
 use Rattle.text.specs.Bytes.{pick}
 use Rattle.settings.specs.Table.{wellFormed}
 use Rattle.line.specs.Lines.{lines}
-use Rattle.select.specs.Select.{accepted, refused, selection, run, start}
+use Rattle.select.specs.Select.{Result, accepted, refused, selection, run, start}
 use Rattle.select.specs.Running.{Unfit}
 
 module _ (f t : List ℕ) (room : ℕ) where
@@ -63,3 +63,11 @@ accepted-runs f t room ms c h =
     by true false false q true h = never _ 16 0 ms c h
     by true false false q false h = (h, ltb-false 4096 (length (lines f)) q)
     by false b d q e h = never _ 1 0 ms c h
+
+pub accepted-sound : (f t : List ℕ) (room : ℕ) (ms : List ℕ) (c : ℕ) → selection f t room ≡ accepted ms c → wellFormed t ≡ true
+unfolding selection
+accepted-sound f t room ms c h = by (wellFormed t) _ h
+  where
+    by : (a : Bool) (x : Result) → pick a x (refused 1 0) ≡ accepted ms c → a ≡ true
+    by true x h = refl
+    by false x h = never _ 1 0 ms c h

@@ -11,13 +11,12 @@ use lib.Dec.{ltb}
 use borrow.Author.Tests.{lt-ltb, le-ltb}
 use Rattle.units.specs.Refusals.{LINE-LONG}
 use Rattle.text.proofs.Laws.{pick-case}
-use Rattle.settings.specs.Table.{wellFormed}
 use Rattle.line.specs.Directives.{directiveOf, textOf}
 use Rattle.line.specs.declared.Directive.{Directive}
 use Rattle.line.specs.declared.Directive.the-variants.{Plain}
 use Rattle.condition.specs.Conditions.{says, countOf}
-use Rattle.condition.specs.declared.Condition.{Condition}
-use Rattle.condition.specs.declared.Condition.the-variants.{Fails}
+use Rattle.line.specs.declared.Condition.{Condition}
+use Rattle.line.specs.declared.Condition.the-variants.{Fails}
 use Rattle.condition.proofs.Counts.{count-small}
 use Rattle.nesting.specs.Groups.{standingOf}
 use Rattle.text.specs.Bytes.{pick}
@@ -65,34 +64,33 @@ module _ (t : List ℕ) (n : ℕ) (s : State) (l : List ℕ) where
   unfolding heard
   read-step h r = decided-step h ∙ rw r
 
-  module _ (sound : wellFormed t ≡ true) where
-    heard-small : countOf (heard t (s .groups) l) < 200
-    unfolding heard
-    heard-small =
-        pick-case (λ (c : Condition). countOf c < 200) (reads (directiveOf l) (standingOf (s .groups)))
-        (λ _. count-small t (directiveOf l) (textOf l) sound) (λ _. omega arith)
+  heard-small : countOf (heard t (s .groups) l) < 200
+  unfolding heard
+  heard-small =
+      pick-case (λ (c : Condition). countOf c < 200) (reads (directiveOf l) (standingOf (s .groups)))
+      (λ _. count-small t (directiveOf l) (textOf l)) (λ _. omega arith)
 
-    -- a step's count, if it has one
-    Small : Outcome → Type 0
-    Small (go m s′) = s′ .count < s .count + 200
-    Small (stop r) = Unit
+  -- a step's count, if it has one
+  Small : Outcome → Type 0
+  Small (go m s′) = s′ .count < s .count + 200
+  Small (stop r) = Unit
 
-    counts-small : (o : Outcome) → Counts (s .count + countOf (heard t (s .groups) l)) o → Small o
-    unfolding Small
-    counts-small (go m s′) e = omega (arith, e, heard-small)
-    counts-small (stop r) e = tt
+  counts-small : (o : Outcome) → Counts (s .count + countOf (heard t (s .groups) l)) o → Small o
+  unfolding Small
+  counts-small (go m s′) e = omega (arith, e, heard-small)
+  counts-small (stop r) e = tt
 
-    step-is-small : Small (step t n s l)
-    unfolding step Small
-    step-is-small =
-        let c = heard t (s .groups) l in
-        let k = s .count + countOf c in
-        pick-case Small (ltb 1024 (length l)) (λ _. tt)
-        (λ _. counts-small (decided (directiveOf l) c n k (s .groups)) (decided-counts (directiveOf l) c n k (s .groups)))
+  step-is-small : Small (step t n s l)
+  unfolding step Small
+  step-is-small =
+      let c = heard t (s .groups) l in
+      let k = s .count + countOf c in
+      pick-case Small (ltb 1024 (length l)) (λ _. tt)
+      (λ _. counts-small (decided (directiveOf l) c n k (s .groups)) (decided-counts (directiveOf l) c n k (s .groups)))
 
-    pub step-small : (m : ℕ) (s′ : State) → step t n s l ≡ go m s′ → s′ .count < s .count + 200
-    unfolding Small
-    step-small m s′ e = rw e at step-is-small
+  pub step-small : (m : ℕ) (s′ : State) → step t n s l ≡ go m s′ → s′ .count < s .count + 200
+  unfolding Small
+  step-small m s′ e = rw e at step-is-small
 
 -- a step from another selection of the same groups, where it went on and where it was refused
 module _ (x y : Selection) (z : Step) where

@@ -8,7 +8,6 @@ use mathlib.Core.Bool.{true, false, false≢true}
 use mathlib.Core.List.{List, [], _∷_, _++_, append-assoc}
 use lib.ListN.{length, getD, take, drop, set, length-append, length-drop, drop-of-length-le}
 use lib.Seq.{drop-cons, set-at, length-take-le}
-use Rattle.settings.specs.Table.{wellFormed}
 use Rattle.line.specs.Lines.{lines}
 use Rattle.line.specs.Directives.{directiveOf}
 use Rattle.line.specs.Cutting.{Cuts}
@@ -21,9 +20,14 @@ use Rattle.nesting.specs.declared.Selection.{Selection}
 use Rattle.nesting.specs.declared.Step.{Step}
 use Rattle.select.specs.Step.{step}
 use Rattle.select.specs.Select.{Result, accepted, refused, prepend, atEnd, after, run, start}
-use Rattle.select.specs.Running.{ends, prepended, Runs, MarksPlain}
+use Rattle.select.specs.Running.{ends, Runs, MarksPlain}
 use Rattle.select.specs.declared.Answer.{Answer}
 use Rattle.select.proofs.Steps.{step-small, plain-step}
+
+-- the marks of the lines so far in front of what comes of the others
+unfoldable pub prepended : List ℕ → Result → Result
+prepended [] r = r
+prepended (m ∷ ms) r = prepend m (prepended ms r)
 
 prepended-accepted : (ms : List ℕ) (c : ℕ) → prepended ms (accepted [] c) ≡ accepted ms c
 unfolding prepended
@@ -97,7 +101,7 @@ module _ {f t marks₀ : List ℕ} {x : Selection} {at n : ℕ} {marks : List �
           by (go m s) k = absurd (false≢true (sym h ∙ k .0))
           by (stop e) k = prepended-refused (u .done) e (n + 1) ∙ ap (λ i. refused i (n + 1)) (sym (k .1))
 
-      module _ (sound : wellFormed t ≡ true) (room : length (lines f) ≤ length marks₀) where
+      module _ (room : length (lines f) ≤ length marks₀) where
         stored-one : set marks n (z .mark) ≡ (u .done ++ z .mark ∷ []) ++ drop (n + 1) marks₀
         stored-one =
             let d : drop n marks₀ ≡ getD marks₀ n 0 ∷ drop (n + 1) marks₀ = rw add-one (drop-cons marks₀ n 0 (omega (arith, inside, room))) in
@@ -122,18 +126,18 @@ module _ {f t marks₀ : List ℕ} {x : Selection} {at n : ℕ} {marks : List �
                       u .goes ∙ ap (prepended (u .done)) (one-more ∙ rw (q, k .1))
                       ∙ prepended-one (u .done) (z .mark) (run t (n + 1 + 1) s others);
                   stored = stored-one;
-                  counted = omega (arith, step-small t (n + 1) (u .reached) line sound m s q, u .counted);
+                  counted = omega (arith, step-small t (n + 1) (u .reached) line m s q, u .counted);
                 }
 
     -- a plain line that is not too long needs no step: it leaves the selection, and its mark is that of plain lines there
-    pub passes-plain : (mark : ℕ) → MarksPlain x mark → r .end .0 - at ≤ 1024 → directiveOf line ≡ Plain → wellFormed t ≡ true
+    pub passes-plain : (mark : ℕ) → MarksPlain x mark → r .end .0 - at ≤ 1024 → directiveOf line ≡ Plain
         → length (lines f) ≤ length marks₀ → Underway f t marks₀ x (r .after .0) (n + 1) (set marks n mark)
-    passes-plain mark kept short plain sound room =
+    passes-plain mark kept short plain room =
         let within : r .end .0 - at ≤ length (drop at f) = omega (arith, length-drop at f, cut .within) in
         let few : length line ≤ 1024 = omega (arith, length-take-le (r .end .0 - at) (drop at f) within, short) in
         goes-on (record { next = x; ok = true; number = 0; mark = mark })
         (rw (plain-step t (n + 1) (u .reached) line few plain) (refl, kept (u .reached) (u .represents), u .represents, refl))
-        sound room refl
+        room refl
 
   -- no line is left
   module _ (over : length f ≤ at) where

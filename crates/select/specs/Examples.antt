@@ -22,7 +22,7 @@ use Rattle.grammar.specs.Parse.{run as runGoal, parse}
 use Rattle.grammar.specs.Bars.{barOutside}
 use Rattle.value.specs.Kinds.{unaryKind, binaryKind, choiceKind}
 use Rattle.value.specs.Values.{primaryValue, missingPcd, unaryValue, bothValues, binaryValue, choiceValue}
-use Rattle.evaluation.specs.Evaluation.{inSoundTable, ofTokens}
+use Rattle.evaluation.specs.Evaluation.{evaluation, ofTokens}
 use Rattle.line.specs.Lines.{onto, endsLine, lines}
 use Rattle.line.specs.Directives.{named, wordStart, textStart, directiveOf}
 use Rattle.condition.specs.Conditions.{idle, ofAnswer, expressionSays, nameAt, namedSays, nameSays, says}
@@ -60,5 +60,5 @@ pub results-hold : results ≡ accepted (4 ∷ 1 ∷ 2 ∷ 0 ∷ 3 ∷ 0 ∷ 5 �
     ∷ accepted (3 ∷ 0 ∷ 5 ∷ []) 3
     ∷ accepted (4 ∷ 1 ∷ 5 ∷ []) 2
     ∷ []
-unfolding selection run step heard opening decided elseifRuling elseRuling endRuling reads onto endsLine lines named wordStart textStart directiveOf says expressionSays nameSays namedSays nameAt idle ofAnswer inSoundTable ofTokens barOutside recordsIn zeros isName soundName soundKind soundRecord sound ascending wellFormed littleEndian held underAt under reading readToken readByte readFrom tooDeep checkDepth classOf span compared macroName pcdName digitOf valueIn literal isDecimal isHexadecimal hexadecimalOf numberOf stringOf stringAt spelled isWide wordOf macroOf begins leading lexemeBy lexeme isPrimary isUnary levelOf runGoal parse unaryKind binaryKind choiceKind andDigits orDigits changed applied comparison numbers primaryValue missingPcd unaryValue bothValues binaryValue choiceValue
+unfolding selection run step heard opening decided elseifRuling elseRuling endRuling reads onto endsLine lines named wordStart textStart directiveOf says expressionSays nameSays namedSays nameAt idle ofAnswer evaluation ofTokens barOutside recordsIn zeros isName soundName soundKind soundRecord sound ascending wellFormed littleEndian held underAt under reading readToken readByte readFrom tooDeep checkDepth classOf span compared macroName pcdName digitOf valueIn literal isDecimal isHexadecimal hexadecimalOf numberOf stringOf stringAt spelled isWide wordOf macroOf begins leading lexemeBy lexeme isPrimary isUnary levelOf runGoal parse unaryKind binaryKind choiceKind andDigits orDigits changed applied comparison numbers primaryValue missingPcd unaryValue bothValues binaryValue choiceValue
 results-hold = refl

@@ -14,7 +14,7 @@ use Rattle.nesting.specs.Groups.{Group, group, standingOf}
 use Rattle.nesting.specs.Decide.{State}
 use Rattle.nesting.specs.Stack.{Represents}
 use Rattle.nesting.specs.declared.Selection.{Selection}
-use Rattle.select.specs.Select.{MOST-LINES, Result, accepted, refused, prepend, run, start, selection, answerOf}
+use Rattle.select.specs.Select.{MOST-LINES, accepted, refused, run, start, selection, answerOf}
 use Rattle.select.specs.declared.Answer.{Answer}
 use Rattle.select.specs.declared.Answer.the-variants.{Accepted, Refused}
 
@@ -22,11 +22,6 @@ use Rattle.select.specs.declared.Answer.the-variants.{Accepted, Refused}
 abbrev pub ends : (n : ℕ) → List Group → (count : ℕ) → Answer
 ends n [] c = Accepted (record { 0 = n }) c
 ends n (group s b l ∷ gs) c = Refused (record { number = FILE-UNFINISHED; line = record { 0 = l } })
-
--- the marks of the lines so far in front of what comes of the others
-unfoldable pub prepended : List ℕ → Result → Result
-prepended [] r = r
-prepended (m ∷ ms) r = prepend m (prepended ms r)
 
 -- the mark of a plain line in the code's selection x
 abbrev pub MarksPlain : (x : Selection) → (mark : ℕ) → Type 0

@@ -77,9 +77,9 @@ abbrev pub lineOf : Answer → ℕ
 lineOf (Accepted l c) = 0
 lineOf (Refused r) = r .line .0
 
-abbrev pub linesOf : Answer → ℕ
-linesOf (Accepted l c) = l .0
-linesOf (Refused r) = 0
+abbrev pub numberOfLines : Answer → ℕ
+numberOfLines (Accepted l c) = l .0
+numberOfLines (Refused r) = 0
 
 abbrev pub countOf : Answer → ℕ
 countOf (Accepted l c) = c

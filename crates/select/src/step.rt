@@ -1,5 +1,5 @@
 // One line of a selection.
-use condition::Condition;
+use line::Condition;
 use line::Directive;
 use line::Head;
 use line::word;

@@ -23,14 +23,14 @@ use Rattle.grammar.specs.Parse.{Reads, parse, accepted as parsed, refused as un
 use Rattle.grammar.proofs.Decided.{unambiguous, bounded, evaluates}
 use Rattle.grammar.proofs.Bars.{bars-seen}
 use Rattle.value.specs.Values.{Value, kindOf}
-use Rattle.value.specs.Settled.{Suits}
+use Rattle.soundness.specs.Settled.{Suits}
 use Rattle.value.specs.declared.Kind.the-variants.{Clash}
 use Rattle.expression.specs.Meaning.{codeOf, meaning as attributes}
 use Rattle.evaluation.specs.Evaluation.{value, refused as refusedWhole, refusedWith, lineOf, judged, evaluation}
-use Rattle.evaluation.specs.Answers.{Stands}
-use Rattle.evaluation.proofs.Answered.{unread, exact, counted}
-use Rattle.evaluation.proofs.Placed.{placed}
-use Rattle.evaluation.proofs.LineZero.{without-line}
+use Rattle.answers.specs.Answers.{Stands}
+use Rattle.answers.proofs.Answered.{unread, exact, counted}
+use Rattle.answers.proofs.Placed.{placed}
+use Rattle.answers.proofs.LineZero.{without-line}
 use Rattle.line.specs.Lines.{lines}
 use Rattle.select.specs.Select.{accepted, refused, run, start, selection, Selects}
 use Rattle.select.specs.declared.Answer.{Answer}

@@ -10,7 +10,7 @@ use Rattle.grammar.specs.Parse.{Result, got, find, Yields}
 use Rattle.syntax.specs.Order.{OrderTo}
 use Rattle.value.specs.Attributes.{Attributes}
 use Rattle.value.specs.declared.Known.{Known}
-use Rattle.value.specs.Places.{known}
+use Rattle.value.specs.Denote.{known}
 use Rattle.expression.specs.Meaning.{codeOf, meaning}
 use Rattle.expression.specs.Parsing.{tokenAt}
 use Rattle.expression.specs.Postfix.{Input, Foldable, Folds}

@@ -22,8 +22,7 @@ in-sound-table-requires : tie.Need-in-sound-table-requires
 in-sound-table-requires c κs = sym (c .before .is-well-formed .ensures) ∙ not-false _ (c .if1 .left)
 
 returns-2 : tie.Need-returns-2
-unfolding evaluation
-returns-2 c = c .in-sound-table .ensures ∙ rw (sym (c .before .before .is-well-formed .ensures) ∙ not-false _ (c .before .if1 .left))
+returns-2 c = c .in-sound-table .ensures
 
 pub evaluate-spec : {M : Type 1} → statement M
 evaluate-spec =

@@ -1,7 +1,7 @@
 -- The scan left the tokens in the arrays, so the answer to the arrays is the answer to the tokens.
 use mathlib.Core.Path.{sym, _∙_}
 use borrow.Author.Needs.{needs}
-use Rattle.evaluation.specs.Evaluation.{inSoundTable}
+use Rattle.evaluation.specs.Evaluation.{evaluation}
 use Rattle.evaluation.proofs.Arrays.{holding, answers}
 use Rattle.evaluation.proofs.outcome.in_room.Statement.{statement}
 use Rattle.evaluation.proofs.outcome.in_room.Tie as tie
@@ -39,10 +39,11 @@ same-length-3 c =
     search needs
 
 returns : tie.Need-returns
-unfolding inSoundTable
+unfolding evaluation
 returns c =
     let scan = c .before .before .before .before .before .before .before .before .before .before in
-    rw (← scan .tokens .ensures .ending, c .before .ending .given .1)
+    let start = scan .before .before .before .before .before .before .before .before .before .before in
+    rw (start .pre .0, ← scan .tokens .ensures .ending, c .before .ending .given .1)
 
 same-length-4 : tie.Need-same-length-4
 same-length-4 c =
@@ -63,7 +64,7 @@ returns-2 c =
     let start = scan .before .before .before .before .before .before .before .before .before .before in
     let learnt = scan .tokens .ensures in
     let whole = sym (learnt .ending) ∙ told .enum-told .given .1 in
-    c .conclude .ensures ∙ answers (start .args .expr .now) (start .args .table .now) (start .pre .1) (learnt .tokens) _ (learnt .count) whole
+    c .conclude .ensures ∙ answers (start .args .expr .now) (start .args .table .now) (start .pre .1) (learnt .tokens) (start .pre .0) _ (learnt .count) whole
 
 pub in-room-spec : {M : Type 1} → statement M
 in-room-spec =

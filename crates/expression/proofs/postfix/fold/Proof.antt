@@ -7,7 +7,7 @@ use mathlib.Core.Bool.{true, false}
 use mathlib.Core.List.{List}
 use lib.ListN.{length}
 use borrow.Author.Needs.{needs}
-use Rattle.value.specs.Places.{known}
+use Rattle.value.specs.Denote.{known}
 use Rattle.value.specs.Attributes.{primaryOf}
 use Rattle.grammar.specs.Grammar.{isPrimary}
 use Rattle.grammar.proofs.Inside.{primary-inside}

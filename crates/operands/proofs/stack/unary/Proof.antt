@@ -1,7 +1,7 @@
 -- The operand is taken, and what the operator makes of it stored.
 use native.Mathlib.Omega.{arith}
 use mathlib.Core.Path.{ap, _∙_}
-use Rattle.value.specs.Places.{known}
+use Rattle.value.specs.Denote.{known}
 use Rattle.value.specs.Attributes.{unaryFrom}
 use Rattle.operands.proofs.Piles.{instead}
 use borrow.Author.Needs.{needs}

@@ -125,7 +125,7 @@ plain-mark-requires c κs =
     let start = loop .before .before .before .before .before in
     let u = loop .loop .inv .0 in
     let meets = stepped .step .ensures (u .reached) (u .represents) in
-    let after = goes-on u (cut .next .ensures) (stepped .step .result) meets (start .pre .0) (start .pre .1) (not-false _ (c .before .if3 .left)) in
+    let after = goes-on u (cut .next .ensures) (stepped .step .result) meets (start .pre .1) (not-false _ (c .before .if3 .left)) in
     omega (arith, after .represents .depth, after .represents .shallow)
 
 -- Either way, the line after it.
@@ -146,14 +146,14 @@ loop-again c =
     let is-plain = c .before .before .is-passed .ensures (passed .0 .taken) in
     let head = c .before .before .before .read-head .ensures in
     rw (passed .1, passed .2, passed .3) (
-      passes-plain u (cut .next .ensures) (now .mark) (now .inv .2) (is-plain .0) (sym (head .directive) ∙ is-plain .1) (start .pre .0) (start .pre .1),
+      passes-plain u (cut .next .ensures) (now .mark) (now .inv .2) (is-plain .0) (sym (head .directive) ∙ is-plain .1) (start .pre .1),
       length-set (now .marks) (now .n .0) (now .mark) ∙ now .inv .1,
       now .inv .2,
     ))
     (λ stepped.
     let meets = stepped .2 .ensures (u .reached) (u .represents) in
     rw (stepped .6, stepped .7, stepped .8) (
-      goes-on u (cut .next .ensures) (stepped .2 .result) meets (start .pre .0) (start .pre .1) (not-false _ (stepped .3 .left)),
+      goes-on u (cut .next .ensures) (stepped .2 .result) meets (start .pre .1) (not-false _ (stepped .3 .left)),
       length-set (now .marks) (now .n .0) (stepped .2 .result .mark) ∙ now .inv .1,
       stepped .5 .ensures,
     ))

@@ -55,7 +55,7 @@ count-of-requires c κs = search needs
 counted-requires : tie.Need-counted-requires
 counted-requires c κs =
     let start = c .before .before .before .before .before .before .before .before .before .before in
-    let small = count-small (start .args .table .now) (start .args .head .directive) (c .before .before .text .result .now) (start .pre .0) in
+    let small = count-small (start .args .table .now) (start .args .head .directive) (c .before .before .text .result .now) in
     omega (arith, c .count-of .ensures, ap countOf (c .before .says .ensures), small, start .pre .3)
 
 decide-requires : tie.Need-decide-requires

@@ -1,0 +1,102 @@
+-- The promises of specs/Answers.antt. The grammar's parser decides what derives and makes what the tree folds to; what is added here is
+-- that no later refusal is 7, since where kinds suit evaluation meets 11 and 12 alone.
+use Prim.Native.Nat.{ℕ}
+use native.Mathlib.Omega.{arith}
+use mathlib.Core.Path.{_≡_, refl, sym, ap, _∙_}
+use mathlib.Core.Logic.{inl, inr}
+use mathlib.Core.Bool.{Bool, true, false, false≢true}
+use mathlib.Core.List.{List}
+use Rattle.units.specs.Refusals.{NO-DERIVATION, refusal}
+use Rattle.text.proofs.Laws.{pick-case}
+use Rattle.settings.specs.Table.{wellFormed}
+use Rattle.token.specs.Tokens.{Token, reading}
+use Rattle.token.specs.declared.scan.Ending.the-variants.{Complete}
+use Rattle.grammar.specs.Grammar.{Tree, Leaf, Unary, Binary, Choice, expression, Derives}
+use Rattle.grammar.specs.Fold.{fold}
+use Rattle.grammar.specs.Bars.{bare}
+use Rattle.grammar.proofs.Decided.{evaluates}
+use Rattle.grammar.proofs.Bars.{bars-seen}
+use Rattle.value.specs.Values.{Value, number, string, wide, fault, kindOf}
+use Rattle.value.specs.Attributes.{Attributes}
+use Rattle.value.specs.declared.Kind.{Kind}
+use Rattle.value.specs.declared.Kind.the-variants.{Clash}
+use Rattle.soundness.specs.Settled.{Late, Suits, Settles}
+use Rattle.soundness.proofs.Settled.{primary-settles, unary-settles, binary-settles, choice-settles}
+use Rattle.expression.specs.Meaning.{codeOf, meaning}
+use Rattle.evaluation.specs.Evaluation.{Evaluation, refusalNumber, value, refusedWith, finished, clashes, judged, ofTokens, evaluation}
+use Rattle.evaluation.proofs.FromTree.{Told, never, judged-tells, tokens-read, counted as counts-below}
+use Rattle.answers.specs.Answers.{Unread, Exact, Counted}
+
+-- every tree is settled, from its leaves up
+pub settles : (e t : List ℕ) (s : Tree Token) → Settles (fold (meaning e t) s)
+unfolding fold
+settles e t (Leaf k) = primary-settles e t k
+settles e t (Unary o s) = unary-settles (o .code) (fold (meaning e t) s) (settles e t s)
+settles e t (Binary o l r) = binary-settles (o .code) (fold (meaning e t) l) (fold (meaning e t) r) (settles e t l) (settles e t r)
+settles e t (Choice q c a b) =
+    choice-settles (fold (meaning e t) c) (fold (meaning e t) a) (fold (meaning e t) b) (settles e t c) (settles e t a) (settles e t b)
+
+late-not-7 : (n : ℕ) → Late n → n ≡ NO-DERIVATION → ⊥
+late-not-7 n (inl h) e = omega arith
+late-not-7 n (inr h) e = omega arith
+
+finished-not-7 : (k : Kind) (v : Value) (n : ℕ) → Suits k v → refusalNumber (finished v n) ≡ NO-DERIVATION → ⊥
+finished-not-7 k (number x) n h e = omega arith
+finished-not-7 k (string p s) n h e = omega arith
+finished-not-7 k (wide p s) n h e = omega arith
+finished-not-7 k (fault r) n h e = late-not-7 r h e
+
+-- where kinds do not clash
+pub alive : (k : Kind) → clashes k ≡ false → k ≡ Clash → ⊥
+alive k h e = let z = ap clashes e in let y : true ≡ false = sym z ∙ h in false≢true (sym y)
+
+judged-not-7 : (bar : Bool) (a : Attributes) → Settles a → refusalNumber (judged bar a) ≡ NO-DERIVATION → ⊥
+judged-not-7 bar a h =
+    pick-case (λ (x : Evaluation). refusalNumber x ≡ NO-DERIVATION → ⊥) bar (λ _ e. omega arith)
+    (λ _. pick-case (λ (x : Evaluation). refusalNumber x ≡ NO-DERIVATION → ⊥) (a .missing) (λ _ e. omega arith)
+    (λ _. pick-case (λ (x : Evaluation). refusalNumber x ≡ NO-DERIVATION → ⊥) (clashes (a .kind)) (λ _ e. omega arith)
+    (λ c. finished-not-7 (a .kind) (a .value) (a .count) (h (alive (a .kind) c)))))
+
+-- a value that is no fault is of the kind that it suits
+suited-kind : (k : Kind) (v : Value) (n : ℕ) → Suits k v → finished v n ≡ value v n → kindOf v ≡ k
+suited-kind k (number x) n h e = sym h
+suited-kind k (string p s) n h e = sym h
+suited-kind k (wide p s) n h e = sym h
+suited-kind k (fault r) n h e = absurd (never (fault r) n (refusal r) e)
+
+told-kind : (v : Value) (n : ℕ) (a : Attributes) → Settles a → Told v n a → kindOf v ≡ a .kind
+told-kind v n a h w = suited-kind (a .kind) v n (rw (w .value) (h (alive (a .kind) (w .suited)))) (w .given)
+
+module _ (e t : List ℕ) where
+  pub unread : Unread e t
+  unfolding evaluation
+  unread = record { malformed = λ h. rw h; unread = λ h r k. rw (h, k) }
+
+  module _ (sound : wellFormed t ≡ true) (complete : reading e .ending ≡ Complete) where
+    by-tokens : evaluation e t ≡ ofTokens e t (reading e .tokens)
+    unfolding evaluation
+    by-tokens = rw (sound, complete)
+
+    derived : (s : Tree Token) (d : Derives codeOf expression (reading e .tokens) s) → evaluation e t ≡ judged (bare codeOf d) (fold (meaning e t) s)
+    unfolding ofTokens
+    derived s d =
+        by-tokens ∙ rw (evaluates (tokens-read e t) (meaning e t) .accepted-exactly (fold (meaning e t) s) .1 (s, d, refl), bars-seen codeOf d)
+
+    none : evaluation e t ≡ refusedWith NO-DERIVATION → (s : Tree Token) → Derives codeOf expression (reading e .tokens) s → ⊥
+    none h s d = judged-not-7 (bare codeOf d) (fold (meaning e t) s) (settles e t s) (ap refusalNumber (sym (derived s d) ∙ h))
+
+    refused-7 : ((s : Tree Token) → Derives codeOf expression (reading e .tokens) s → ⊥) → evaluation e t ≡ refusedWith NO-DERIVATION
+    unfolding ofTokens
+    refused-7 h = by-tokens ∙ rw (evaluates (tokens-read e t) (meaning e t) .refused-exactly .1 h .1)
+
+    pub exact : Exact e t sound complete
+    exact =
+        record {
+          underived = (none, refused-7);
+          derived = derived;
+          settles = settles e t;
+          settled = λ s d v n h. told-kind v n (fold (meaning e t) s) (settles e t s) (judged-tells v n (bare codeOf d) (fold (meaning e t) s) (sym (derived s d) ∙ h));
+        }
+
+pub counted : (e t : List ℕ) → Counted e t
+counted = counts-below

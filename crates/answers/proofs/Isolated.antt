@@ -1,0 +1,102 @@
+-- What an answer depends on (document 01, "For demand 3"): of the table only the records under the names that the expression names, and
+-- not where in the table these are, except for the place of a string that is answered. The tree that the tokens derive does not depend on
+-- the table, its leaves are tokens of the expression, and no form looks at places.
+use Prim.Native.Nat.{ℕ}
+use mathlib.Core.Path.{_≡_, refl, sym, ap, ap₂, _∙_}
+use mathlib.Core.Bool.{Bool, true}
+use mathlib.Core.List.{List}
+use lib.ListN.{length}
+use Rattle.text.proofs.Laws.{pick-both}
+use Rattle.settings.specs.Table.{wellFormed}
+use Rattle.lookup.specs.Records.{recordUnder}
+use Rattle.token.specs.Tokens.{Token, codesOf, reading}
+use Rattle.token.specs.declared.scan.Ending.{Ending}
+use Rattle.token.specs.declared.scan.Ending.the-variants.{Complete, Refused}
+use Rattle.grammar.specs.Grammar.{Tree, expression, Derives}
+use Rattle.grammar.specs.Fold.{fold, trees}
+use Rattle.grammar.specs.Bars.{barOutside}
+use Rattle.grammar.specs.Parse.{Outcome, refused as underived, accepted, parse, mapOutcome}
+use Rattle.grammar.proofs.Decided.{evaluates, decides}
+use Rattle.grammar.proofs.Preserved.{Preserves}
+use Rattle.grammar.proofs.Related.{paired, Paired, related}
+use Rattle.value.specs.Values.{Value, number, string, wide, fault, nameIn, Naming}
+use Rattle.value.specs.Attributes.{Attributes, unaryFrom, binaryFrom, choiceFrom}
+use Rattle.soundness.proofs.Unplaced.{unplaced, unplacedAttributes, unary-unplaced, binary-unplaced, choice-unplaced}
+use Rattle.soundness.proofs.Named.{primary-unplaced}
+use Rattle.expression.specs.Meaning.{codeOf, meaning}
+use Rattle.evaluation.specs.Evaluation.{Evaluation, value, refused, finished, clashes, judged, tokenIn, concluded, ofTokens, ended, evaluation}
+use Rattle.evaluation.proofs.FromTree.{tokens-read}
+use Rattle.answers.specs.Names.{Names}
+
+-- two tables have the same record under every name that e names, or neither has one
+abbrev pub SameRecords : (t₁ t₂ e : List ℕ) → Type 0
+SameRecords t₁ t₂ e = (n : List ℕ) → Names e n → recordUnder t₁ n ≡ recordUnder t₂ n
+
+-- an answer without the place of its string
+abbrev pub unplacedAnswer : Evaluation → Evaluation
+unplacedAnswer (value v n) = value (unplaced v) n
+unplacedAnswer (refused r) = refused r
+
+-- judging looks at no place
+finished-unplaced : (v : Value) (n : ℕ) → unplacedAnswer (finished v n) ≡ finished (unplaced v) n
+finished-unplaced (number x) n = refl
+finished-unplaced (string p s) n = refl
+finished-unplaced (wide p s) n = refl
+finished-unplaced (fault r) n = refl
+
+abbrev Unplaces : Evaluation → Evaluation → Type 0
+Unplaces x y = unplacedAnswer x ≡ y
+
+judged-unplaced : (bar : Bool) (a : Attributes) → unplacedAnswer (judged bar a) ≡ judged bar (unplacedAttributes a)
+judged-unplaced bar a =
+    pick-both Unplaces bar (λ _. refl)
+    (λ _. pick-both Unplaces (a .missing) (λ _. refl)
+    (λ _. pick-both Unplaces (clashes (a .kind)) (λ _. refl) (λ _. finished-unplaced (a .value) (a .count))))
+
+-- two attributes are the same except for places
+abbrev Same : Attributes → Attributes → Type 0
+Same a b = unplacedAttributes a ≡ unplacedAttributes b
+
+judged-same : (bar : Bool) (a b : Attributes) → Same a b → unplacedAnswer (judged bar a) ≡ unplacedAnswer (judged bar b)
+judged-same bar a b h = judged-unplaced bar a ∙ ap (judged bar) h ∙ sym (judged-unplaced bar b)
+
+module _ (e t₁ t₂ : List ℕ) where
+  -- the tables have the same record under the name in a token
+  abbrev Agree : Token → Type 0
+  Agree k = Naming k → recordUnder t₁ (nameIn e k) ≡ recordUnder t₂ (nameIn e k)
+
+  preserves : Preserves (paired (meaning e t₁) (meaning e t₂)) Agree (Paired (meaning e t₁) (meaning e t₂) Same)
+  preserves =
+      record {
+        leaf = primary-unplaced e t₁ t₂;
+        unary = λ o a h. unary-unplaced (o .code) (a .0) ∙ ap (unaryFrom (o .code)) h ∙ sym (unary-unplaced (o .code) (a .1));
+        binary = λ o a b h i. binary-unplaced (o .code) (a .0) (b .0) ∙ ap₂ (binaryFrom (o .code)) h i ∙ sym (binary-unplaced (o .code) (a .1) (b .1));
+        choice = λ q c a b h i j. choice-unplaced (c .0) (a .0) (b .0) ∙ (λ k. choiceFrom (h k) (i k) (j k)) ∙ sym (choice-unplaced (c .1) (a .1) (b .1));
+      }
+
+  module _ (same : SameRecords t₁ t₂ e) where
+    tree-same : (s : Tree Token) → Derives codeOf expression (reading e .tokens) s → Same (fold (meaning e t₁) s) (fold (meaning e t₂) s)
+    tree-same s d =
+        related (meaning e t₁) (meaning e t₂) Same codeOf preserves d
+        (λ k m n. same (nameIn e k) (record { token = k; among = m; naming = n; name = refl }))
+
+    by-outcome : (o : Outcome (Tree Token)) → parse codeOf trees (tokenIn (reading e .tokens)) (length (reading e .tokens)) ≡ o → (cs : List ℕ)
+        → unplacedAnswer (concluded cs (mapOutcome (fold (meaning e t₁)) o)) ≡ unplacedAnswer (concluded cs (mapOutcome (fold (meaning e t₂)) o))
+    by-outcome (underived i) p cs = refl
+    by-outcome (accepted s) p cs =
+        judged-same (barOutside 0 cs) (fold (meaning e t₁) s) (fold (meaning e t₂) s) (tree-same s (decides (tokens-read e t₁) .sound s p))
+
+    tokens-isolated : unplacedAnswer (ofTokens e t₁ (reading e .tokens)) ≡ unplacedAnswer (ofTokens e t₂ (reading e .tokens))
+    unfolding ofTokens
+    tokens-isolated =
+        rw (evaluates (tokens-read e t₁) (meaning e t₁) .folded, evaluates (tokens-read e t₁) (meaning e t₂) .folded)
+        (by-outcome (parse codeOf trees (tokenIn (reading e .tokens)) (length (reading e .tokens))) refl (codesOf (reading e .tokens)))
+
+  -- over well-formed tables both give the same answer: the same value and count of operators, or the same refusal
+  pub isolated : wellFormed t₁ ≡ true → wellFormed t₂ ≡ true → SameRecords t₁ t₂ e → unplacedAnswer (evaluation e t₁) ≡ unplacedAnswer (evaluation e t₂)
+  unfolding evaluation
+  isolated sound₁ sound₂ same = rw (sound₁, sound₂) (by (reading e .ending))
+    where
+      by : (y : Ending) → unplacedAnswer (ended y (ofTokens e t₁ (reading e .tokens))) ≡ unplacedAnswer (ended y (ofTokens e t₂ (reading e .tokens)))
+      by (Refused r) = refl
+      by Complete = tokens-isolated same

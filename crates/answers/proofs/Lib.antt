@@ -1,0 +1,4 @@
+pub mod Answered
+pub mod Placed
+pub mod LineZero
+pub mod Isolated

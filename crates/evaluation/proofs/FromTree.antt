@@ -1,0 +1,86 @@
+-- A value is that of a tree which the tokens derive, with fewer operators applied than there are tokens. Assumes nothing.
+use Prim.Native.Nat.{ℕ, _<_}
+use native.Mathlib.Omega.{arith}
+use mathlib.Core.Path.{_≡_, refl}
+use mathlib.Core.Bool.{Bool, true, false}
+use mathlib.Core.List.{List}
+use lib.ListN.{length}
+use Rattle.units.specs.Refusals.{refusal}
+use Rattle.units.specs.declared.Refusal.{Refusal}
+use Rattle.text.specs.Bytes.{pick}
+use Rattle.text.proofs.Laws.{pick-case}
+use Rattle.settings.specs.Table.{wellFormed}
+use Rattle.token.specs.Tokens.{Token, codesOf, reading}
+use Rattle.token.specs.declared.scan.Ending.{Ending}
+use Rattle.token.specs.declared.scan.Ending.the-variants.{Complete, Refused}
+use Rattle.grammar.specs.Grammar.{Tree, expression, Derives}
+use Rattle.grammar.specs.Fold.{fold}
+use Rattle.grammar.specs.Bars.{barOutside}
+use Rattle.grammar.specs.Parse.{Outcome, refused as underived, accepted, parse, Reads}
+use Rattle.grammar.proofs.Lists.{list-reads}
+use Rattle.grammar.proofs.Decided.{evaluates, bounded}
+use Rattle.value.specs.Values.{Value, number, string, wide, fault}
+use Rattle.value.specs.Attributes.{Attributes}
+use Rattle.expression.specs.Meaning.{codeOf, meaning}
+use Rattle.expression.proofs.Ready.{counts}
+use Rattle.evaluation.specs.Evaluation.{Evaluation, value, refused, refusedWith, finished, clashes, judged, END-TOKEN, tokenIn, concluded, ofTokens, ended, evaluation}
+
+-- what a value tells of the attributes that gave it: their kinds do not clash, and it is theirs and no fault
+pub record Told (v : Value) (n : ℕ) (a : Attributes) : Type 0 where
+  pub suited : clashes (a .kind) ≡ false
+  pub given : finished v n ≡ value v n
+  pub count : n ≡ a .count
+  pub value : v ≡ a .value
+
+module _ (v : Value) (n : ℕ) where
+  abbrev Tells : Attributes → Evaluation → Type 0
+  Tells a x = x ≡ value v n → Told v n a
+
+  pub never : (r : Refusal) → refused r ≡ value v n → ⊥
+  never r e = let z : _≡_ {A = ℕ} 0 1 = cc in omega arith
+
+  finished-tells : (a : Attributes) → clashes (a .kind) ≡ false → (w : Value) → a .value ≡ w → Tells a (finished w (a .count))
+  finished-tells a h (number x) g e = let w : v ≡ number x = cc in record { suited = h; count = cc; value = cc; given = rw w }
+  finished-tells a h (string p s) g e = let w : v ≡ string p s = cc in record { suited = h; count = cc; value = cc; given = rw w }
+  finished-tells a h (wide p s) g e = let w : v ≡ wide p s = cc in record { suited = h; count = cc; value = cc; given = rw w }
+  finished-tells a h (fault r) g e = absurd (never (refusal r) e)
+
+  pub judged-tells : (bar : Bool) (a : Attributes) → Tells a (judged bar a)
+  judged-tells bar a =
+      pick-case (Tells a) bar (λ _ e. absurd (never _ e))
+      (λ _. pick-case (Tells a) (a .missing) (λ _ e. absurd (never _ e))
+      (λ _. pick-case (Tells a) (clashes (a .kind)) (λ _ e. absurd (never _ e))
+      (λ c. finished-tells a c (a .value) refl)))
+
+module _ (e t : List ℕ) where
+  pub tokens-read : Reads codeOf (reading e .tokens) (tokenIn (reading e .tokens))
+  tokens-read = list-reads codeOf END-TOKEN refl (reading e .tokens)
+
+  -- a value is that of a tree that the tokens derive
+  abbrev FromTree : (v : Value) (n : ℕ) → Type 0
+  FromTree v n = (s : Tree Token) × Derives codeOf expression (reading e .tokens) s × Told v n (fold (meaning e t) s)
+
+  -- by what the parser found
+  by-outcome : (o : Outcome Attributes) → parse codeOf (meaning e t) (tokenIn (reading e .tokens)) (length (reading e .tokens)) ≡ o
+      → (v : Value) (n : ℕ) → concluded (codesOf (reading e .tokens)) o ≡ value v n → FromTree v n
+  by-outcome (underived i) p v n h = absurd (never v n _ h)
+  by-outcome (accepted a) p v n h =
+      let r = evaluates tokens-read (meaning e t) .accepted-exactly a .0 p in
+      let s : Tree Token = r .0 in
+      let k : judged (barOutside 0 (codesOf (reading e .tokens))) (fold (meaning e t) s) ≡ value v n = rw (← r .2) h in
+      (s, r .1, judged-tells v n (barOutside 0 (codesOf (reading e .tokens))) (fold (meaning e t) s) k)
+
+  pub from-tree : (v : Value) (n : ℕ) → evaluation e t ≡ value v n → FromTree v n
+  unfolding evaluation ofTokens
+  from-tree v n = by (wellFormed t) (reading e .ending)
+    where
+      by : (b : Bool) (y : Ending) → pick b (ended y (ofTokens e t (reading e .tokens))) (refusedWith 1) ≡ value v n → FromTree v n
+      by false y h = absurd (never v n _ h)
+      by true (Refused r) h = absurd (never v n _ h)
+      by true Complete h = by-outcome (parse codeOf (meaning e t) (tokenIn (reading e .tokens)) (length (reading e .tokens))) refl v n h
+
+  -- fewer operators were applied than the expression has tokens
+  pub counted : (v : Value) (n : ℕ) → evaluation e t ≡ value v n → n < length (reading e .tokens)
+  counted v n h =
+      let r = from-tree v n h in
+      omega (arith, r .2 .count, bounded codeOf (meaning e t) (λ a. a .count) (counts e t) (reading e .tokens) (r .0) (r .1))

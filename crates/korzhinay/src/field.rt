@@ -1,0 +1,17 @@
+// The bytes of a data field.
+ghost use Rattle.marshal.specs.FieldCall.{Fills};
+
+// The bytes of a data field: 0, its length, and the field at the buffer's front; or the refusal number, a length of 0, and the buffer
+// as it was.
+#[no_mangle]
+pub extern "C" fn korzhinay_field<'a>(
+    buffer: &mut [u8],
+    expr: &'a [u8],
+    table: &'a [u8],
+    datum: u8,
+    written: &mut u64,
+) -> u8
+    ensures { λ r. ⌜ Fills (now (expr .entry)) (now (table .entry)) datum (now (buffer .entry)) r (now (written .exit)) (now (buffer .exit)) ⌝ }
+{
+    marshal::fields::fill(buffer, expr, table, datum, written)
+}

@@ -1,0 +1,16 @@
+// The selection of lines.
+ghost use Rattle.marshal.specs.SelectCall.{Marks};
+
+// Marks the lines of a file: 0, the number of lines and the sum of counts in `out`; or the refusal number and its line, and then every mark
+// is 255.
+#[no_mangle]
+pub extern "C" fn korzhinay_select<'a>(
+    marks: &mut [u8],
+    file: &'a [u8],
+    table: &'a [u8],
+    out: &mut [u64; 3],
+) -> u8
+    ensures { λ r. ⌜ Marks (now (file .entry)) (now (table .entry)) (now (marks .entry)) (now (out .entry)) r (now (marks .exit)) (now (out .exit)) ⌝ }
+{
+    marshal::selections::mark(marks, file, table, out)
+}

@@ -1,0 +1,18 @@
+// The tokens of an expression.
+ghost use Rattle.token.specs.Tokens.{reading};
+ghost use Rattle.marshal.specs.Calls.{Lists};
+
+// The tokens of an expression: the refusal number or 0, how many were read, and their codes, starts, lengths and values.
+#[no_mangle]
+pub extern "C" fn korzhinay_tokens(
+    expr: &[u8],
+    out: &mut [u64; 2],
+    codes: &mut [u8; 200],
+    starts: &mut [u16; 200],
+    lens: &mut [u16; 200],
+    values: &mut [u64; 200],
+)
+    ensures { λ r. ⌜ Lists (reading (now (expr .entry))) (now (out .entry)) (now (codes .entry)) (now (starts .entry)) (now (lens .entry)) (now (values .entry)) (now (out .exit)) (now (codes .exit)) (now (starts .exit)) (now (lens .exit)) (now (values .exit)) ⌝ }
+{
+    marshal::tokens::list(expr, out, codes, starts, lens, values)
+}

@@ -1,0 +1,45 @@
+-- The answer is the evaluation; it is stored as the definition shows it.
+use borrow.Author.Needs.{needs}
+use Rattle.marshal.proofs.expressions.answer.Statement.{statement}
+use Rattle.marshal.proofs.expressions.answer.Tie as tie
+
+evaluate-requires : tie.Need-evaluate-requires
+evaluate-requires c κs = search needs
+
+enum-known-r : tie.Need-enum-known-r
+enum-known-r c = search needs
+
+show-number-requires : tie.Need-show-number-requires
+show-number-requires c κs = search needs
+
+enum-known-v : tie.Need-enum-known-v
+enum-known-v c = search needs
+
+show-value-requires : tie.Need-show-value-requires
+show-value-requires c κs = search needs
+
+returns : tie.Need-returns
+returns c = let s = c .before .before .before .before .before .before .before .before in
+    let e = s .args .expr .now in
+    let t = s .args .table .now in
+    let a = rw (c .before .before .before .r .given .1) at (c .before .before .before .before .before .evaluate .ensures) in
+    record { refused-with = rw (← a); written = rw (← a) (c .show-number .ensures) }
+
+returns-2 : tie.Need-returns-2
+returns-2 c = let s = c .before .before .before .before .before .before .before .before in
+    let e = s .args .expr .now in
+    let t = s .args .table .now in
+    let a = rw (c .before .before .before .v .given .1) at (c .before .before .before .before .before .evaluate .ensures) in
+    record { refused-with = rw (← a); written = rw (← a) (c .show-value .ensures e t) }
+
+pub answer-spec : {M : Type 1} → statement M
+answer-spec =
+    tie.close
+    (tie.spec
+    evaluate-requires
+    enum-known-r
+    show-number-requires
+    enum-known-v
+    show-value-requires
+    returns
+    returns-2)

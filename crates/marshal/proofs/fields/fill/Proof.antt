@@ -1,0 +1,37 @@
+-- The variant decides; the buffer is as the field left it.
+use mathlib.Core.Path.{sym, _∙_}
+use borrow.Author.Needs.{needs}
+use Rattle.marshal.proofs.fields.fill.Statement.{statement}
+use Rattle.marshal.proofs.fields.fill.Tie as tie
+
+field-requires : tie.Need-field-requires
+field-requires c κs = search needs
+
+enum-known-n : tie.Need-enum-known-n
+enum-known-n c = search needs
+
+enum-known-r : tie.Need-enum-known-r
+enum-known-r c = search needs
+
+same-length : tie.Need-same-length
+same-length c = search needs
+
+returns : tie.Need-returns
+returns c =
+    let w = c .before .before .before .before .before .field .ensures in
+    let a = sym (w .answer) ∙ c .before .n .given .1 in
+    record { refused-with = rw a; length-is = rw a; buffer-is = w .buffer }
+
+same-length-2 : tie.Need-same-length-2
+same-length-2 c = search needs
+
+returns-2 : tie.Need-returns-2
+returns-2 c =
+    let w = c .before .before .before .before .before .field .ensures in
+    let a = sym (w .answer) ∙ c .before .r .given .1 in
+    record { refused-with = rw a; length-is = rw a; buffer-is = w .buffer }
+
+pub fill-spec : {M : Type 1} → statement M
+fill-spec =
+    tie.close
+    (tie.spec field-requires enum-known-n enum-known-r same-length returns same-length-2 returns-2)

@@ -1,0 +1,52 @@
+-- The answer tells what is shown; the marks are as the selection left them.
+use mathlib.Core.Path.{sym, _∙_}
+use borrow.Author.Needs.{needs}
+use Rattle.marshal.proofs.selections.mark.Statement.{statement}
+use Rattle.marshal.proofs.selections.mark.Tie as tie
+
+select-requires : tie.Need-select-requires
+select-requires c κs = search needs
+
+enum-known-lines : tie.Need-enum-known-lines
+enum-known-lines c = search needs
+
+show-run-requires : tie.Need-show-run-requires
+show-run-requires c κs = search needs
+
+enum-known-r : tie.Need-enum-known-r
+enum-known-r c = search needs
+
+show-run-requires-2 : tie.Need-show-run-requires-2
+show-run-requires-2 c κs = search needs
+
+same-length : tie.Need-same-length
+same-length c = search needs
+
+returns : tie.Need-returns
+returns c =
+    let w = c .before .before .before .before .before .before .before .select .ensures in
+    let a = sym (c .before .before .before .lines .given .1) ∙ w .answer in
+    record { refused-with = rw (← a); shown = rw (← a) (c .show-run .ensures); marks-are = w .marks-are }
+
+same-length-2 : tie.Need-same-length-2
+same-length-2 c = search needs
+
+returns-2 : tie.Need-returns-2
+returns-2 c =
+    let w = c .before .before .before .before .before .before .before .before .select .ensures in
+    let a = sym (c .before .before .before .before .r .given .1) ∙ w .answer in
+    record { refused-with = rw (← a); shown = rw (← a) (c .show-run2 .ensures); marks-are = w .marks-are }
+
+pub mark-spec : {M : Type 1} → statement M
+mark-spec =
+    tie.close
+    (tie.spec
+    select-requires
+    enum-known-lines
+    show-run-requires
+    enum-known-r
+    show-run-requires-2
+    same-length
+    returns
+    same-length-2
+    returns-2)

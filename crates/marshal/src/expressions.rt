@@ -1,0 +1,73 @@
+// The calls on expressions.
+use evaluation::Answer;
+use evaluation::Value;
+use evaluation::outcome;
+use value::Place;
+ghost use mathlib.Core.Path.{_≡_};
+ghost use mathlib.Core.List.{List, [], _∷_};
+ghost use Prim.Native.Nat.{ℕ};
+ghost use Rattle.text.specs.Bytes.{pick};
+ghost use Rattle.text.specs.Parts.{stored};
+ghost use Rattle.evaluation.specs.Evaluation.{value as valued, valueSaid};
+ghost use Rattle.marshal.specs.Expressions.{answerShown, Answers};
+
+// A flag as a number.
+fn one_if(flag: bool) -> u64
+    ensures { λ r. ⌜ r ≡ pick flag 1 0 ⌝ }
+{
+    if flag { 1 } else { 0 }
+}
+
+// Stores a number with its count of operators; all zeros stand for no value.
+fn show_number(out: &mut [u64; 6], x: u64, count: u64)
+    ensures { λ r. ⌜ now (out .exit) ≡ stored (0 ∷ x ∷ count ∷ 0 ∷ 0 ∷ 0 ∷ []) (now (out .entry)) ⌝ }
+{
+    out[0] = 0;
+    out[1] = x;
+    out[2] = count;
+    out[3] = 0;
+    out[4] = 0;
+    out[5] = 0;
+}
+
+// Stores where a string stands.
+fn show_string(out: &mut [u64; 6], kind: u64, place: Place, count: u64)
+    ensures { λ r. ⌜ now (out .exit) ≡ stored (kind ∷ 0 ∷ count ∷ pick (place .tabled) 1 0 ∷ place .start .0 ∷ place .len ∷ []) (now (out .entry)) ⌝ }
+{
+    let from = place.start;
+    let tabled = one_if(place.tabled);
+    out[0] = kind;
+    out[1] = 0;
+    out[2] = count;
+    out[3] = tabled;
+    out[4] = from.0 as u64;
+    out[5] = place.len as u64;
+}
+
+// Stores a value.
+fn show_value(out: &mut [u64; 6], v: Value, count: usize)
+    ensures { λ r. ⌜ ((e t : List ℕ) → now (out .exit) ≡ stored (answerShown (valued (valueSaid e t v) count)) (now (out .entry))) ⌝ }
+{
+    let n = count as u64;
+    match v {
+        Value::Number(x) => show_number(out, x, n),
+        Value::String(p) => show_string(out, 1, p, n),
+        Value::Wide(p) => show_string(out, 2, p, n),
+    }
+}
+
+// The value of an expression over a table: 0 and the value in `out`, or the refusal number, and then `out` is all zeros.
+pub fn answer<'a>(expr: &'a [u8], table: &'a [u8], out: &mut [u64; 6]) -> u8
+    ensures { λ r. ⌜ Answers (now (expr .entry)) (now (table .entry)) (now (out .entry)) r (now (out .exit)) ⌝ }
+{
+    match outcome::evaluate(expr, table) {
+        Answer::Refused(r) => {
+            show_number(out, 0, 0);
+            r.number
+        }
+        Answer::Value(v, count) => {
+            show_value(out, v, count);
+            0
+        }
+    }
+}

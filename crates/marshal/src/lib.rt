@@ -1,0 +1,6 @@
+// The answers of the layers below as numbers in lent arrays: a function for each exported call.
+pub mod expressions;
+pub mod fields;
+pub mod selections;
+pub mod tables;
+pub mod tokens;

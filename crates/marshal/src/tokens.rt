@@ -1,0 +1,34 @@
+// The call that lists the tokens of an expression.
+use token::scan;
+use token::scan::Ending;
+ghost use mathlib.Core.Path.{_≡_};
+ghost use Rattle.token.specs.Tokens.{reading};
+ghost use Rattle.marshal.specs.Calls.{Lists, refusalNumber};
+
+// The refusal number of an ending, 0 where nothing was refused.
+fn number_of(ending: Ending) -> u8
+    ensures { λ r. ⌜ r ≡ refusalNumber ending ⌝ }
+{
+    match ending {
+        Ending::Complete => 0,
+        Ending::Refused(r) => r.number,
+    }
+}
+
+// The tokens of an expression: the refusal number or 0, how many were read, and their codes, starts, lengths and values.
+pub fn list(
+    expr: &[u8],
+    out: &mut [u64; 2],
+    codes: &mut [u8; 200],
+    starts: &mut [u16; 200],
+    lens: &mut [u16; 200],
+    values: &mut [u64; 200],
+)
+    ensures { λ r. ⌜ Lists (reading (now (expr .entry))) (now (out .entry)) (now (codes .entry)) (now (starts .entry)) (now (lens .entry)) (now (values .entry)) (now (out .exit)) (now (codes .exit)) (now (starts .exit)) (now (lens .exit)) (now (values .exit)) ⌝ }
+{
+    let s = scan::tokens(codes, starts, lens, values, expr);
+    let read = s.tokens;
+    let ending = s.ending;
+    out[0] = number_of(ending) as u64;
+    out[1] = read.0 as u64;
+}

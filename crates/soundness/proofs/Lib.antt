@@ -1,0 +1,4 @@
+pub mod Settled
+pub mod Results
+pub mod Unplaced
+pub mod Named
