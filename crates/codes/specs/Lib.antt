@@ -1,3 +1,4 @@
 pub mod Codes
 pub mod Spellings
+pub mod Levels
 pub mod Found

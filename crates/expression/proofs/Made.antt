@@ -11,9 +11,10 @@ use borrow.Author.Tests.{eqb-true, le-ltb}
 use Rattle.text.specs.Bytes.{pick}
 use Rattle.codes.specs.Codes.{OPEN, CLOSE, QUESTION, COLON}
 use Rattle.token.specs.Tokens.{Token}
-use Rattle.grammar.specs.Grammar.{Nonterminal, level, expression, primaries, isPrimary, isUnary, levelOf}
+use Rattle.codes.specs.Levels.{isUnary, levelOf}
+use Rattle.grammar.specs.Grammar.{Nonterminal, level, expression, isPrimary}
 use Rattle.grammar.specs.Parse.{END, InTable, Goal, find, extend, Result, bad, got, andThen, step, run, size, Yields}
-use Rattle.grammar.proofs.Codes.{among-every, question-level}
+use Rattle.grammar.proofs.Codes.{primary-level, question-level}
 use Rattle.grammar.proofs.Inside.{primary-inside, level-inside, code-inside}
 use Rattle.syntax.specs.Order.{UNARY, FILLER, postfix, Ordered}
 use Rattle.syntax.proofs.Orders.{ended}
@@ -29,12 +30,11 @@ use Rattle.expression.proofs.Entries.{is-unary, is-operand, is-filler, 
 
 -- a binary operator is no primary, and neither is a `?` or the end
 level-not-primary : (c k : ℕ) → k < 12 → levelOf c ≡ suc k → isPrimary c ≡ false
-unfolding isPrimary levelOf
 level-not-primary c k h e = by (isPrimary c) refl
   where
     by : (t : Bool) → isPrimary c ≡ t → t ≡ false
     by false f = refl
-    by true f = absurd (omega (arith, e, h, eqb-true (levelOf c) 99 (among-every (λ d. eqb (levelOf d) 99) primaries c refl f)))
+    by true f = absurd (omega (arith, e, h, primary-level c f))
 
 question-not-primary : (c : ℕ) → c ≡ QUESTION → isPrimary c ≡ false
 unfolding isPrimary

@@ -4,7 +4,8 @@ use native.Mathlib.Omega.{arith}
 use mathlib.Core.Path.{_≡_, sym, ap, _∙_}
 use mathlib.Core.List.{List, [], _∷_, _++_, append-assoc, append-nil}
 use lib.ListN.{length, take, set}
-use Rattle.grammar.specs.Grammar.{level, levelOf}
+use Rattle.codes.specs.Levels.{levelOf}
+use Rattle.grammar.specs.Grammar.{level}
 use Rattle.grammar.specs.Parse.{Result, bad, find}
 use Rattle.grammar.specs.Climb.{Climbs}
 use Rattle.grammar.proofs.Climb.{nothing, joined-bad, joined, climbed}

@@ -8,7 +8,8 @@ use mathlib.Core.List.{List, [], _∷_, _++_, append-assoc, append-nil}
 use lib.ListN.{length, take, set, length-set}
 use lib.Seq.{take-suc-set}
 use borrow.Author.Tests.{le-ltb}
-use Rattle.grammar.specs.Grammar.{Nonterminal, level, isUnary}
+use Rattle.codes.specs.Levels.{isUnary}
+use Rattle.grammar.specs.Grammar.{Nonterminal, level}
 use Rattle.grammar.specs.Parse.{Ends, InTable, Goal, bad, got, find}
 use Rattle.grammar.proofs.Steps.{moved, unary-bad, unary-made}
 use Rattle.syntax.specs.Order.{codeAt, UNARY, FILLER, Ordered}

@@ -5,7 +5,7 @@ use mathlib.Core.Path.{_≡_}
 use mathlib.Core.Bool.{true}
 use mathlib.Core.List.{List}
 use borrow.Author.Count.{below-more}
-use Rattle.grammar.specs.Grammar.{isUnary}
+use Rattle.codes.specs.Levels.{isUnary}
 use Rattle.grammar.proofs.Inside.{unary-inside}
 use Rattle.syntax.specs.Order.{codeAt}
 use Rattle.syntax.specs.Descent.{Run}

@@ -4,7 +4,7 @@ use mathlib.Core.Path.{_≡_}
 use mathlib.Core.Bool.{true}
 use mathlib.Core.List.{List, [], _∷_, _++_}
 use lib.ListN.{length, take}
-use Rattle.grammar.specs.Grammar.{isUnary}
+use Rattle.codes.specs.Levels.{isUnary}
 use Rattle.grammar.specs.Parse.{Goal, bad, got}
 use Rattle.syntax.specs.Order.{codeAt, UNARY, Ordered}
 

@@ -2,12 +2,14 @@
 // of the tokens and writes the postfix order: operands before their operator. No value is looked at, so that a call needs little of the
 // stack.
 use crate::tokens;
+use codes::levels;
 use units::TokenNumber;
 ghost use mathlib.Core.Path.{_≡_};
 ghost use mathlib.Core.Bool.{false};
 ghost use Prim.Native.Nat.{_+_, _-_, _≤_, _<_};
 ghost use lib.ListN.{set, length};
-ghost use Rattle.grammar.specs.Grammar.{isUnary, level as levelAt, expression as wholeAt};
+ghost use Rattle.codes.specs.Levels.{isUnary};
+ghost use Rattle.grammar.specs.Grammar.{level as levelAt, expression as wholeAt};
 ghost use Rattle.grammar.specs.Parse.{find};
 ghost use Rattle.syntax.specs.Order.{codeAt, WritesPostfix};
 ghost use Rattle.syntax.specs.Descent.{Fit, Appends, Run, AppendsRun};
@@ -25,7 +27,7 @@ fn run_end(codes: &[u8; 200], n: TokenNumber, i: TokenNumber) -> TokenNumber
     ensures { λ r. ⌜ isUnary (codeAt (now (codes .entry)) (n .0) (r .0)) ≡ false ⌝ }
 {
     let mut j = i.0;
-    while tokens::is_unary(tokens::code_at(codes, n, TokenNumber(j))) {
+    while levels::is_unary(tokens::code_at(codes, n, TokenNumber(j))) {
         j += 1;
     }
     TokenNumber(j)
@@ -114,7 +116,7 @@ fn level(
     let mut low: usize = 1;
     loop {
         let o = tokens::code_at(codes, n, TokenNumber(at));
-        let l = tokens::level_of(o) as usize;
+        let l = levels::level_of(o) as usize;
         if l <= low {
             return at;
         }

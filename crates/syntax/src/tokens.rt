@@ -2,7 +2,7 @@
 use units::TokenNumber;
 ghost use mathlib.Core.Path.{_≡_};
 ghost use Prim.Native.Nat.{_≤_};
-ghost use Rattle.grammar.specs.Grammar.{isPrimary, isUnary, levelOf};
+ghost use Rattle.grammar.specs.Grammar.{isPrimary};
 ghost use Rattle.syntax.specs.Order.{codeAt};
 
 // The code past the last token, which no token has.
@@ -17,67 +17,11 @@ pub fn code_at(codes: &[u8; 200], n: TokenNumber, at: TokenNumber) -> u8
     if i < n.0 { codes[i] } else { END }
 }
 
+// Whether a token is an operand by itself.
 pub fn is_primary(c: u8) -> bool
     ensures { λ r. ⌜ r ≡ isPrimary c ⌝ }
 {
     if c <= codes::PCD { true } else { false }
-}
-
-pub fn is_unary(c: u8) -> bool
-    ensures { λ r. ⌜ r ≡ isUnary c ⌝ }
-{
-    if c < codes::NOT {
-        return false;
-    }
-    if c <= codes::MINUS { true } else { false }
-}
-
-// The level of each code: 99 where it is no binary operator.
-const LEVELS: [u8; 36] = [
-    99,
-    99,
-    99,
-    99,
-    99,
-    99,
-    99,
-    99,
-    99,
-    99,
-    99,
-    99,
-    99,
-    99,
-    99,
-    99,
-    3,
-    3,
-    2,
-    2,
-    2,
-    4,
-    4,
-    5,
-    5,
-    5,
-    5,
-    6,
-    6,
-    7,
-    8,
-    9,
-    10,
-    11,
-    12,
-    12,
-];
-
-// The level of a binary operator.
-pub fn level_of(c: u8) -> u8
-    ensures { λ r. ⌜ r ≡ levelOf c ⌝ }
-{
-    let i = c as usize;
-    if i < 36 { LEVELS[i] } else { 99 }
 }
 
 // An entry of the order is a token's number; that of a unary operator has this added.

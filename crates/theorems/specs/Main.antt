@@ -2,21 +2,19 @@
 -- is cited. Bytes are natural numbers; `e` is an expression, `t` a table of settings, `f` a file, each a list of bytes. The definitions that
 -- the statements are made of are in the files that the imports name. That every exported call ends, does nothing undefined and gives an
 -- answer for any bytes (demand 1) is what the toolchain proves of each function before anything else, and is no theorem here.
-use Prim.Native.Nat.{ℕ, _+_, _≤_, _<_}
+use Prim.Native.Nat.{ℕ, _≤_, _<_}
 use mathlib.Core.Path.{_≡_}
 use mathlib.Core.Logic.{_↔_, _⊎_}
 use mathlib.Core.Bool.{true, false}
 use mathlib.Core.List.{List, map}
 use lib.ListN.{length, getD, take}
-use lib.Dec.{eqb}
 use Rattle.units.specs.Refusals.{TABLE-MALFORMED, NO-DERIVATION}
 use Rattle.units.specs.declared.Refusal.{Refusal}
 use Rattle.text.specs.Bytes.{bytes}
 use Rattle.settings.specs.Table.{wellFormed}
 use Rattle.token.specs.Tokens.{Token, reading}
 use Rattle.token.specs.declared.scan.Ending.the-variants.{Complete, Refused}
-use Rattle.grammar.specs.Grammar.{Tree, expression, Derives, isUnary, levelOf}
-use Rattle.grammar.specs.Table.{spelled, unaries, table, unaries-hold, table-holds}
+use Rattle.grammar.specs.Grammar.{Tree, expression, Derives}
 use Rattle.grammar.specs.Fold.{Algebra, Counts, fold}
 use Rattle.grammar.specs.Bars.{bare, barOutside}
 use Rattle.grammar.specs.Parse.{Reads, parse, accepted as parsed, refused as unparsed}
@@ -58,13 +56,6 @@ use Rattle.field.proofs.LineZero.{without-line as field-without-line}
 pub one-tree : {K : Type 0} (code : K → ℕ) (ts : List K) (s u : Tree K)
     → Derives code expression ts s → Derives code expression ts u → s ≡ u
 one-tree = unambiguous
-
--- The unary operators are those of the table of precedence, as they are spelled, and no others; so are the operators of each level.
-pub table-of-unaries : spelled isUnary ≡ map bytes unaries
-table-of-unaries = unaries-hold
-
-pub table-of-levels : map (λ r. spelled (λ c. eqb (levelOf c) (r .level))) table ≡ map (λ r. map bytes (r .operators)) table
-table-of-levels = table-holds
 
 -- A malformed table is refused with 1, whatever the expression.
 pub malformed-table : (e t : List ℕ) → wellFormed t ≡ false → evaluation e t ≡ refusedWith TABLE-MALFORMED

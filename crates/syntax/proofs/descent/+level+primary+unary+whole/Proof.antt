@@ -8,7 +8,8 @@ use mathlib.Core.List.{[], _∷_, _++_, append-nil}
 use lib.ListN.{length, take}
 use borrow.Author.Needs.{needs}
 use Rattle.codes.specs.Codes.{OPEN, QUESTION, COLON}
-use Rattle.grammar.specs.Grammar.{isPrimary, levelOf}
+use Rattle.grammar.specs.Grammar.{isPrimary}
+use Rattle.codes.specs.Levels.{levelOf}
 use Rattle.grammar.proofs.Inside.{code-inside, primary-inside, level-inside}
 use Rattle.grammar.proofs.Steps.{primary-leaf, primary-none, parentheses-bad, parentheses-open, parentheses-closed, unary-none, expression-bad, choice-none, choice-bad-first, choice-no-colon, choice-bad-second, choice-made}
 use Rattle.grammar.proofs.Climb.{found-bad}
@@ -32,7 +33,7 @@ use Rattle.syntax.proofs.descent.whole.Kinds as whole-kinds
 use Rattle.syntax.proofs.descent.+level+primary+unary+whole.Lts-whole as whole-lts
 use Rattle.syntax.proofs.tokens.code_at.Reads as code-at-reads
 use Rattle.syntax.proofs.tokens.is_primary.Reads as is-primary-reads
-use Rattle.syntax.proofs.tokens.level_of.Reads as level-of-reads
+use Rattle.codes.proofs.levels.level_of.Reads as level-of-reads
 use Rattle.syntax.proofs.descent.append.Reads as append-reads
 use Rattle.syntax.proofs.descent.run_end.Reads as run-end-reads
 use Rattle.syntax.proofs.descent.append_run.Reads as append-run-reads

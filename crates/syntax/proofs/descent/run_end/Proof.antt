@@ -4,7 +4,7 @@ use native.Mathlib.Omega.{arith}
 use mathlib.Core.Path.{_≡_, sym, ap, _∙_}
 use mathlib.Core.Bool.{true}
 use borrow.Author.Needs.{needs}
-use Rattle.grammar.specs.Grammar.{isUnary}
+use Rattle.codes.specs.Levels.{isUnary}
 use Rattle.grammar.proofs.Inside.{unary-inside}
 use Rattle.syntax.specs.Order.{codeAt}
 use Rattle.syntax.specs.Descent.{Run}

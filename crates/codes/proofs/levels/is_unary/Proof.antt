@@ -3,9 +3,9 @@ use native.Mathlib.Omega.{arith}
 use mathlib.Core.Bool.{true, false}
 use mathlib.Core.Path.{refl}
 use Rattle.text.proofs.Spans.{same-over}
-use Rattle.grammar.specs.Grammar.{isUnary}
-use Rattle.syntax.proofs.tokens.is_unary.Statement.{statement}
-use Rattle.syntax.proofs.tokens.is_unary.Tie as tie
+use Rattle.codes.specs.Levels.{isUnary}
+use Rattle.codes.proofs.levels.is_unary.Statement.{statement}
+use Rattle.codes.proofs.levels.is_unary.Tie as tie
 
 returns : tie.Need-returns
 unfolding isUnary

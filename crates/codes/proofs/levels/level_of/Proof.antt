@@ -2,10 +2,10 @@
 use native.Mathlib.Omega.{arith}
 use mathlib.Core.Path.{refl}
 use Rattle.text.proofs.Spans.{same-over, tabled}
-use Rattle.grammar.specs.Grammar.{levelOf}
+use Rattle.codes.specs.Levels.{levelOf}
 use borrow.Author.Needs.{needs}
-use Rattle.syntax.proofs.tokens.level_of.Statement.{statement}
-use Rattle.syntax.proofs.tokens.level_of.Tie as tie
+use Rattle.codes.proofs.levels.level_of.Statement.{statement}
+use Rattle.codes.proofs.levels.level_of.Tie as tie
 
 array-read-result : tie.Need-array-read-result
 array-read-result c = search needs

@@ -1,0 +1,23 @@
+-- The levels of operators (document 01, "Precedence"), by the codes of their tokens.
+use Prim.Native.Nat.{ℕ}
+use mathlib.Core.Bool.{Bool, _&&_}
+use mathlib.Core.List.{List, [], _∷_, map}
+use lib.Dec.{eqb, ltb}
+use Rattle.text.specs.Bytes.{pick, among}
+use Rattle.codes.specs.Spellings.{Spelling, spellings, those}
+
+-- level 1: the operators before their only operand
+abbrev pub unaries : List ℕ
+unaries = map (λ x. x .code) (those (λ x. eqb (x .level) 1) spellings)
+
+unfoldable pub isUnary : ℕ → Bool
+isUnary c = among unaries c
+
+-- the level of the first of some spellings that has a code; 99 where none has it
+abbrev pub levelAmong : List Spelling → ℕ → ℕ
+levelAmong [] c = 99
+levelAmong (x ∷ xs) c = pick (eqb c (x .code)) (x .level) (levelAmong xs c)
+
+-- levels 2 to 12: the operators between two operands, the tightest first; 99 for any other token
+unfoldable pub levelOf : ℕ → ℕ
+levelOf c = levelAmong (those (λ x. ltb 1 (x .level) && ltb (x .level) 13) spellings) c

@@ -1,0 +1,61 @@
+// The levels of operators.
+ghost use mathlib.Core.Path.{_≡_};
+ghost use Rattle.codes.specs.Levels.{isUnary, levelOf};
+
+// Whether a token is an operator before its only operand.
+pub fn is_unary(c: u8) -> bool
+    ensures { λ r. ⌜ r ≡ isUnary c ⌝ }
+{
+    if c < crate::NOT {
+        return false;
+    }
+    if c <= crate::MINUS { true } else { false }
+}
+
+// The level of each code: 99 where it is no binary operator.
+const LEVELS: [u8; 36] = [
+    99,
+    99,
+    99,
+    99,
+    99,
+    99,
+    99,
+    99,
+    99,
+    99,
+    99,
+    99,
+    99,
+    99,
+    99,
+    99,
+    3,
+    3,
+    2,
+    2,
+    2,
+    4,
+    4,
+    5,
+    5,
+    5,
+    5,
+    6,
+    6,
+    7,
+    8,
+    9,
+    10,
+    11,
+    12,
+    12,
+];
+
+// The level of a binary operator.
+pub fn level_of(c: u8) -> u8
+    ensures { λ r. ⌜ r ≡ levelOf c ⌝ }
+{
+    let i = c as usize;
+    if i < 36 { LEVELS[i] } else { 99 }
+}
