@@ -20,27 +20,27 @@ use Rattle.value.specs.Values.{Value, number, string, wide, fault, kindOf}
 use Rattle.value.specs.Attributes.{Attributes}
 use Rattle.value.specs.declared.Kind.{Kind}
 use Rattle.value.specs.declared.Kind.the-variants.{Clash}
-use Rattle.soundness.specs.Settled.{Late, Suits, Settles}
-use Rattle.soundness.proofs.Settled.{primary-settles, unary-settles, binary-settles, choice-settles}
+use Rattle.soundness.specs.Settled.{RuntimeRefusal, HasKind, KindSound}
+use Rattle.soundness.proofs.KindSound.{primary-kind-sound, unary-kind-sound, binary-kind-sound, choice-kind-sound}
 use Rattle.expression.specs.Meaning.{codeOf, meaning}
-use Rattle.evaluation.specs.Evaluation.{Evaluation, refusalNumber, value, refusedWith, finished, clashes, judged, ofTokens, evaluation}
+use Rattle.evaluation.specs.Evaluation.{Evaluation, refusalNumber, value, refusedWith, answerValue, clashes, checkThenAnswer, ofTokens, evaluation}
 use Rattle.evaluation.proofs.FromTree.{Told, never, judged-tells, tokens-read, counted as counts-below}
 use Rattle.answers.specs.Answers.{Unread, Exact, Counted}
 
 -- every tree is settled, from its leaves up
-pub settles : (e t : List ℕ) (s : Tree Token) → Settles (fold (meaning e t) s)
+pub kind-sound : (e t : List ℕ) (s : Tree Token) → KindSound (fold (meaning e t) s)
 unfolding fold
-settles e t (Leaf k) = primary-settles e t k
-settles e t (Unary o s) = unary-settles (o .code) (fold (meaning e t) s) (settles e t s)
-settles e t (Binary o l r) = binary-settles (o .code) (fold (meaning e t) l) (fold (meaning e t) r) (settles e t l) (settles e t r)
-settles e t (Choice q c a b) =
-    choice-settles (fold (meaning e t) c) (fold (meaning e t) a) (fold (meaning e t) b) (settles e t c) (settles e t a) (settles e t b)
+kind-sound e t (Leaf k) = primary-kind-sound e t k
+kind-sound e t (Unary o s) = unary-kind-sound (o .code) (fold (meaning e t) s) (kind-sound e t s)
+kind-sound e t (Binary o l r) = binary-kind-sound (o .code) (fold (meaning e t) l) (fold (meaning e t) r) (kind-sound e t l) (kind-sound e t r)
+kind-sound e t (Choice q c a b) =
+    choice-kind-sound (fold (meaning e t) c) (fold (meaning e t) a) (fold (meaning e t) b) (kind-sound e t c) (kind-sound e t a) (kind-sound e t b)
 
-late-not-7 : (n : ℕ) → Late n → n ≡ NO-DERIVATION → ⊥
+late-not-7 : (n : ℕ) → RuntimeRefusal n → n ≡ NO-DERIVATION → ⊥
 late-not-7 n (inl h) e = omega arith
 late-not-7 n (inr h) e = omega arith
 
-finished-not-7 : (k : Kind) (v : Value) (n : ℕ) → Suits k v → refusalNumber (finished v n) ≡ NO-DERIVATION → ⊥
+finished-not-7 : (k : Kind) (v : Value) (n : ℕ) → HasKind k v → refusalNumber (answerValue v n) ≡ NO-DERIVATION → ⊥
 finished-not-7 k (number x) n h e = omega arith
 finished-not-7 k (string p s) n h e = omega arith
 finished-not-7 k (wide p s) n h e = omega arith
@@ -50,7 +50,7 @@ finished-not-7 k (fault r) n h e = late-not-7 r h e
 pub alive : (k : Kind) → clashes k ≡ false → k ≡ Clash → ⊥
 alive k h e = let z = ap clashes e in let y : true ≡ false = sym z ∙ h in false≢true (sym y)
 
-judged-not-7 : (bar : Bool) (a : Attributes) → Settles a → refusalNumber (judged bar a) ≡ NO-DERIVATION → ⊥
+judged-not-7 : (bar : Bool) (a : Attributes) → KindSound a → refusalNumber (checkThenAnswer bar a) ≡ NO-DERIVATION → ⊥
 judged-not-7 bar a h =
     pick-case (λ (x : Evaluation). refusalNumber x ≡ NO-DERIVATION → ⊥) bar (λ _ e. omega arith)
     (λ _. pick-case (λ (x : Evaluation). refusalNumber x ≡ NO-DERIVATION → ⊥) (a .missing) (λ _ e. omega arith)
@@ -58,13 +58,13 @@ judged-not-7 bar a h =
     (λ c. finished-not-7 (a .kind) (a .value) (a .count) (h (alive (a .kind) c)))))
 
 -- a value that is no fault is of the kind that it suits
-suited-kind : (k : Kind) (v : Value) (n : ℕ) → Suits k v → finished v n ≡ value v n → kindOf v ≡ k
+suited-kind : (k : Kind) (v : Value) (n : ℕ) → HasKind k v → answerValue v n ≡ value v n → kindOf v ≡ k
 suited-kind k (number x) n h e = sym h
 suited-kind k (string p s) n h e = sym h
 suited-kind k (wide p s) n h e = sym h
 suited-kind k (fault r) n h e = absurd (never (fault r) n (refusal r) e)
 
-told-kind : (v : Value) (n : ℕ) (a : Attributes) → Settles a → Told v n a → kindOf v ≡ a .kind
+told-kind : (v : Value) (n : ℕ) (a : Attributes) → KindSound a → Told v n a → kindOf v ≡ a .kind
 told-kind v n a h w = suited-kind (a .kind) v n (rw (w .value) (h (alive (a .kind) (w .suited)))) (w .given)
 
 module _ (e t : List ℕ) where
@@ -77,13 +77,13 @@ module _ (e t : List ℕ) where
     unfolding evaluation
     by-tokens = rw (sound, complete)
 
-    derived : (s : Tree Token) (d : Derives codeOf expression (reading e .tokens) s) → evaluation e t ≡ judged (bare codeOf d) (fold (meaning e t) s)
+    derived : (s : Tree Token) (d : Derives codeOf expression (reading e .tokens) s) → evaluation e t ≡ checkThenAnswer (bare codeOf d) (fold (meaning e t) s)
     unfolding ofTokens
     derived s d =
         by-tokens ∙ rw (evaluates (tokens-read e t) (meaning e t) .accepted-exactly (fold (meaning e t) s) .1 (s, d, refl), bars-seen codeOf d)
 
     none : evaluation e t ≡ refusedWith NO-DERIVATION → (s : Tree Token) → Derives codeOf expression (reading e .tokens) s → ⊥
-    none h s d = judged-not-7 (bare codeOf d) (fold (meaning e t) s) (settles e t s) (ap refusalNumber (sym (derived s d) ∙ h))
+    none h s d = judged-not-7 (bare codeOf d) (fold (meaning e t) s) (kind-sound e t s) (ap refusalNumber (sym (derived s d) ∙ h))
 
     refused-7 : ((s : Tree Token) → Derives codeOf expression (reading e .tokens) s → ⊥) → evaluation e t ≡ refusedWith NO-DERIVATION
     unfolding ofTokens
@@ -94,8 +94,9 @@ module _ (e t : List ℕ) where
         record {
           underived = (none, refused-7);
           derived = derived;
-          settles = settles e t;
-          settled = λ s d v n h. told-kind v n (fold (meaning e t) s) (settles e t s) (judged-tells v n (bare codeOf d) (fold (meaning e t) s) (sym (derived s d) ∙ h));
+          kind-sound = kind-sound e t;
+          value-kind = λ s d v n h. told-kind v n (fold (meaning e t) s) (kind-sound e t s)
+              (judged-tells v n (bare codeOf d) (fold (meaning e t) s) (sym (derived s d) ∙ h));
         }
 
 pub counted : (e t : List ℕ) → Counted e t

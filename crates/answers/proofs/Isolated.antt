@@ -21,10 +21,10 @@ use Rattle.grammar.proofs.Preserved.{Preserves}
 use Rattle.grammar.proofs.Related.{paired, Paired, related}
 use Rattle.value.specs.Values.{Value, number, string, wide, fault, nameIn, Naming}
 use Rattle.value.specs.Attributes.{Attributes, unaryFrom, binaryFrom, choiceFrom}
-use Rattle.soundness.proofs.Unplaced.{unplaced, unplacedAttributes, unary-unplaced, binary-unplaced, choice-unplaced}
-use Rattle.soundness.proofs.Named.{primary-unplaced}
+use Rattle.soundness.proofs.ErasePlaces.{erasePlaces, erasePlacesOf, unary-erased, binary-erased, choice-erased}
+use Rattle.soundness.proofs.Named.{primary-erased}
 use Rattle.expression.specs.Meaning.{codeOf, meaning}
-use Rattle.evaluation.specs.Evaluation.{Evaluation, value, refused, finished, clashes, judged, tokenIn, concluded, ofTokens, ended, evaluation}
+use Rattle.evaluation.specs.Evaluation.{Evaluation, value, refused, answerValue, clashes, checkThenAnswer, tokenIn, answerTokens, ofTokens, ended, evaluation}
 use Rattle.evaluation.proofs.FromTree.{tokens-read}
 use Rattle.answers.specs.Names.{Names}
 
@@ -33,32 +33,32 @@ abbrev pub SameRecords : (t₁ t₂ e : List ℕ) → Type 0
 SameRecords t₁ t₂ e = (n : List ℕ) → Names e n → recordUnder t₁ n ≡ recordUnder t₂ n
 
 -- an answer without the place of its string
-abbrev pub unplacedAnswer : Evaluation → Evaluation
-unplacedAnswer (value v n) = value (unplaced v) n
-unplacedAnswer (refused r) = refused r
+abbrev pub erasePlacesIn : Evaluation → Evaluation
+erasePlacesIn (value v n) = value (erasePlaces v) n
+erasePlacesIn (refused r) = refused r
 
 -- judging looks at no place
-finished-unplaced : (v : Value) (n : ℕ) → unplacedAnswer (finished v n) ≡ finished (unplaced v) n
-finished-unplaced (number x) n = refl
-finished-unplaced (string p s) n = refl
-finished-unplaced (wide p s) n = refl
-finished-unplaced (fault r) n = refl
+answer-value-erased : (v : Value) (n : ℕ) → erasePlacesIn (answerValue v n) ≡ answerValue (erasePlaces v) n
+answer-value-erased (number x) n = refl
+answer-value-erased (string p s) n = refl
+answer-value-erased (wide p s) n = refl
+answer-value-erased (fault r) n = refl
 
 abbrev Unplaces : Evaluation → Evaluation → Type 0
-Unplaces x y = unplacedAnswer x ≡ y
+Unplaces x y = erasePlacesIn x ≡ y
 
-judged-unplaced : (bar : Bool) (a : Attributes) → unplacedAnswer (judged bar a) ≡ judged bar (unplacedAttributes a)
-judged-unplaced bar a =
+check-then-answer-erased : (bar : Bool) (a : Attributes) → erasePlacesIn (checkThenAnswer bar a) ≡ checkThenAnswer bar (erasePlacesOf a)
+check-then-answer-erased bar a =
     pick-both Unplaces bar (λ _. refl)
     (λ _. pick-both Unplaces (a .missing) (λ _. refl)
-    (λ _. pick-both Unplaces (clashes (a .kind)) (λ _. refl) (λ _. finished-unplaced (a .value) (a .count))))
+    (λ _. pick-both Unplaces (clashes (a .kind)) (λ _. refl) (λ _. answer-value-erased (a .value) (a .count))))
 
 -- two attributes are the same except for places
 abbrev Same : Attributes → Attributes → Type 0
-Same a b = unplacedAttributes a ≡ unplacedAttributes b
+Same a b = erasePlacesOf a ≡ erasePlacesOf b
 
-judged-same : (bar : Bool) (a b : Attributes) → Same a b → unplacedAnswer (judged bar a) ≡ unplacedAnswer (judged bar b)
-judged-same bar a b h = judged-unplaced bar a ∙ ap (judged bar) h ∙ sym (judged-unplaced bar b)
+judged-same : (bar : Bool) (a b : Attributes) → Same a b → erasePlacesIn (checkThenAnswer bar a) ≡ erasePlacesIn (checkThenAnswer bar b)
+judged-same bar a b h = check-then-answer-erased bar a ∙ ap (checkThenAnswer bar) h ∙ sym (check-then-answer-erased bar b)
 
 module _ (e t₁ t₂ : List ℕ) where
   -- the tables have the same record under the name in a token
@@ -68,10 +68,10 @@ module _ (e t₁ t₂ : List ℕ) where
   preserves : Preserves (paired (meaning e t₁) (meaning e t₂)) Agree (Paired (meaning e t₁) (meaning e t₂) Same)
   preserves =
       record {
-        leaf = primary-unplaced e t₁ t₂;
-        unary = λ o a h. unary-unplaced (o .code) (a .0) ∙ ap (unaryFrom (o .code)) h ∙ sym (unary-unplaced (o .code) (a .1));
-        binary = λ o a b h i. binary-unplaced (o .code) (a .0) (b .0) ∙ ap₂ (binaryFrom (o .code)) h i ∙ sym (binary-unplaced (o .code) (a .1) (b .1));
-        choice = λ q c a b h i j. choice-unplaced (c .0) (a .0) (b .0) ∙ (λ k. choiceFrom (h k) (i k) (j k)) ∙ sym (choice-unplaced (c .1) (a .1) (b .1));
+        leaf = primary-erased e t₁ t₂;
+        unary = λ o a h. unary-erased (o .code) (a .0) ∙ ap (unaryFrom (o .code)) h ∙ sym (unary-erased (o .code) (a .1));
+        binary = λ o a b h i. binary-erased (o .code) (a .0) (b .0) ∙ ap₂ (binaryFrom (o .code)) h i ∙ sym (binary-erased (o .code) (a .1) (b .1));
+        choice = λ q c a b h i j. choice-erased (c .0) (a .0) (b .0) ∙ (λ k. choiceFrom (h k) (i k) (j k)) ∙ sym (choice-erased (c .1) (a .1) (b .1));
       }
 
   module _ (same : SameRecords t₁ t₂ e) where
@@ -81,22 +81,22 @@ module _ (e t₁ t₂ : List ℕ) where
         (λ k m n. same (nameIn e k) (record { token = k; among = m; naming = n; name = refl }))
 
     by-outcome : (o : Outcome (Tree Token)) → parse codeOf trees (tokenIn (reading e .tokens)) (length (reading e .tokens)) ≡ o → (cs : List ℕ)
-        → unplacedAnswer (concluded cs (mapOutcome (fold (meaning e t₁)) o)) ≡ unplacedAnswer (concluded cs (mapOutcome (fold (meaning e t₂)) o))
+        → erasePlacesIn (answerTokens cs (mapOutcome (fold (meaning e t₁)) o)) ≡ erasePlacesIn (answerTokens cs (mapOutcome (fold (meaning e t₂)) o))
     by-outcome (underived i) p cs = refl
     by-outcome (accepted s) p cs =
         judged-same (barOutside 0 cs) (fold (meaning e t₁) s) (fold (meaning e t₂) s) (tree-same s (decides (tokens-read e t₁) .sound s p))
 
-    tokens-isolated : unplacedAnswer (ofTokens e t₁ (reading e .tokens)) ≡ unplacedAnswer (ofTokens e t₂ (reading e .tokens))
+    tokens-isolated : erasePlacesIn (ofTokens e t₁ (reading e .tokens)) ≡ erasePlacesIn (ofTokens e t₂ (reading e .tokens))
     unfolding ofTokens
     tokens-isolated =
         rw (evaluates (tokens-read e t₁) (meaning e t₁) .folded, evaluates (tokens-read e t₁) (meaning e t₂) .folded)
         (by-outcome (parse codeOf trees (tokenIn (reading e .tokens)) (length (reading e .tokens))) refl (codesOf (reading e .tokens)))
 
   -- over well-formed tables both give the same answer: the same value and count of operators, or the same refusal
-  pub isolated : wellFormed t₁ ≡ true → wellFormed t₂ ≡ true → SameRecords t₁ t₂ e → unplacedAnswer (evaluation e t₁) ≡ unplacedAnswer (evaluation e t₂)
+  pub isolated : wellFormed t₁ ≡ true → wellFormed t₂ ≡ true → SameRecords t₁ t₂ e → erasePlacesIn (evaluation e t₁) ≡ erasePlacesIn (evaluation e t₂)
   unfolding evaluation
   isolated sound₁ sound₂ same = rw (sound₁, sound₂) (by (reading e .ending))
     where
-      by : (y : Ending) → unplacedAnswer (ended y (ofTokens e t₁ (reading e .tokens))) ≡ unplacedAnswer (ended y (ofTokens e t₂ (reading e .tokens)))
+      by : (y : Ending) → erasePlacesIn (ended y (ofTokens e t₁ (reading e .tokens))) ≡ erasePlacesIn (ended y (ofTokens e t₂ (reading e .tokens)))
       by (Refused r) = refl
       by Complete = tokens-isolated same

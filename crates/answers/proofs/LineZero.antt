@@ -11,9 +11,9 @@ use Rattle.text.specs.declared.bytes.Class.the-variants.{Initial, Digit, Quote,
 use Rattle.text.proofs.Laws.{pick-case}
 use Rattle.settings.specs.Table.{wellFormed}
 use Rattle.lexeme.specs.Lexeme.{lexeme}
-use Rattle.codes.specs.declared.Lexeme.{Lexeme}
-use Rattle.codes.specs.declared.Lexeme.the-variants.{Found, Wrong}
-use Rattle.token.specs.Tokens.{MOST-BYTES, MOST-TOKENS, Reading, readToken, readByte, readFrom, tooDeep, checkDepth, codesOf, reading}
+use Rattle.codes.specs.declared.Scanned.{Scanned}
+use Rattle.codes.specs.declared.Scanned.the-variants.{Found, Refused}
+use Rattle.token.specs.Tokens.{MAX-BYTES, MAX-TOKENS, Reading, readToken, readByte, readFrom, tooDeep, checkDepth, codesOf, reading}
 use Rattle.token.specs.declared.scan.Ending.{Ending}
 use Rattle.token.specs.declared.scan.Ending.the-variants.{Complete, Refused}
 use Rattle.grammar.specs.Bars.{barOutside}
@@ -21,7 +21,7 @@ use Rattle.grammar.specs.Parse.{Outcome, refused as underived, accepted, parse}
 use Rattle.value.specs.Values.{Value, number, string, wide, fault}
 use Rattle.value.specs.Attributes.{Attributes}
 use Rattle.expression.specs.Meaning.{codeOf, meaning}
-use Rattle.evaluation.specs.Evaluation.{Evaluation, lineOf, finished, clashes, tokenIn, concluded, ofTokens, ended, evaluation}
+use Rattle.evaluation.specs.Evaluation.{Evaluation, lineOf, answerValue, clashes, tokenIn, answerTokens, ofTokens, ended, evaluation}
 use Rattle.answers.specs.Answers.{WithoutLine}
 
 -- where reading ended with a refusal, that has line 0
@@ -35,13 +35,13 @@ read-from at room inside [] = tt
 read-from at room (suc inside) (b ∷ s) = read-from (suc at) room inside s
 read-from at room zero (b ∷ s) = by-byte (classOf b) room (lexeme (b ∷ s)) (λ room′ inside′. read-from (suc at) room′ inside′ s)
   where
-    by-token : (room : ℕ) (x : Lexeme) → ((room′ inside′ : ℕ) → EndsSo (readFrom (suc at) room′ inside′ s .ending))
+    by-token : (room : ℕ) (x : Scanned) → ((room′ inside′ : ℕ) → EndsSo (readFrom (suc at) room′ inside′ s .ending))
         → EndsSo (readToken room x at (λ room′ inside′. readFrom (suc at) room′ inside′ s) .ending)
     by-token zero x ih = refl
-    by-token (suc room) (Wrong r) ih = refl
+    by-token (suc room) (Refused r) ih = refl
     by-token (suc room) (Found f) ih = ih room (f .len - 1)
 
-    by-byte : (c : Class) (room : ℕ) (x : Lexeme) → ((room′ inside′ : ℕ) → EndsSo (readFrom (suc at) room′ inside′ s .ending))
+    by-byte : (c : Class) (room : ℕ) (x : Scanned) → ((room′ inside′ : ℕ) → EndsSo (readFrom (suc at) room′ inside′ s .ending))
         → EndsSo (readByte c room x at (λ room′ inside′. readFrom (suc at) room′ inside′ s) .ending)
     by-byte Blank room x ih = ih room 0
     by-byte Comment room x ih = tt
@@ -60,19 +60,19 @@ checked-so Complete b h = pick-case EndsSo b (λ _. refl) (λ _. tt)
 reads-so : (e : List ℕ) → EndsSo (reading e .ending)
 unfolding reading
 reads-so e =
-    pick-case (λ (r : Reading). EndsSo (r .ending)) (ltb MOST-BYTES (length e)) (λ _. refl)
-    (λ _. checked-so (readFrom 0 MOST-TOKENS 0 e .ending) (tooDeep 0 0 (codesOf (readFrom 0 MOST-TOKENS 0 e .tokens))) (read-from 0 MOST-TOKENS 0 e))
+    pick-case (λ (r : Reading). EndsSo (r .ending)) (ltb MAX-BYTES (length e)) (λ _. refl)
+    (λ _. checked-so (readFrom 0 MAX-TOKENS 0 e .ending) (tooDeep 0 0 (codesOf (readFrom 0 MAX-TOKENS 0 e .tokens))) (read-from 0 MAX-TOKENS 0 e))
 
 abbrev LineZero : Evaluation → Type 0
 LineZero x = lineOf x ≡ 0
 
-finished-so : (v : Value) (n : ℕ) → LineZero (finished v n)
+finished-so : (v : Value) (n : ℕ) → LineZero (answerValue v n)
 finished-so (number x) n = refl
 finished-so (string p s) n = refl
 finished-so (wide p s) n = refl
 finished-so (fault r) n = refl
 
-concluded-so : (cs : List ℕ) (o : Outcome Attributes) → LineZero (concluded cs o)
+concluded-so : (cs : List ℕ) (o : Outcome Attributes) → LineZero (answerTokens cs o)
 concluded-so cs (underived i) = refl
 concluded-so cs (accepted a) =
     pick-case LineZero (barOutside 0 cs) (λ _. refl)

@@ -17,9 +17,9 @@ use Rattle.grammar.specs.Fold.{fold}
 use Rattle.grammar.specs.Bars.{bare}
 use Rattle.value.specs.Values.{Value, number, string, wide, fault, kindOf}
 use Rattle.value.specs.Places.{bytesAt}
-use Rattle.soundness.specs.Settled.{Settles}
+use Rattle.soundness.specs.Settled.{KindSound}
 use Rattle.expression.specs.Meaning.{codeOf, meaning}
-use Rattle.evaluation.specs.Evaluation.{value, refused, refusedWith, lineOf, judged, evaluation}
+use Rattle.evaluation.specs.Evaluation.{value, refused, refusedWith, lineOf, checkThenAnswer, evaluation}
 
 -- a malformed table is 1, whatever the expression; then come the refusals that reading the expression meets, 2 to 6
 pub record Unread (e t : List ℕ) : Type 0 where
@@ -32,11 +32,11 @@ pub record Exact (e t : List ℕ) (sound : wellFormed t ≡ true) (complete : re
   pub underived : (evaluation e t ≡ refusedWith NO-DERIVATION) ↔ ((s : Tree Token) → Derives codeOf expression (reading e .tokens) s → ⊥)
   -- else what the tree folds to decides, and whether the derivation has a bar outside parentheses
   pub derived : (s : Tree Token) (d : Derives codeOf expression (reading e .tokens) s)
-      → evaluation e t ≡ judged (bare codeOf d) (fold (meaning e t) s)
+      → evaluation e t ≡ checkThenAnswer (bare codeOf d) (fold (meaning e t) s)
   -- where its kinds suit, a tree has a value of the settled kind, or evaluation met 11 or 12
-  pub settles : (s : Tree Token) → Settles (fold (meaning e t) s)
+  pub kind-sound : (s : Tree Token) → KindSound (fold (meaning e t) s)
   -- so a value that is answered is of the kind that was settled for the tree, whatever was skipped
-  pub settled : (s : Tree Token) → Derives codeOf expression (reading e .tokens) s
+  pub value-kind : (s : Tree Token) → Derives codeOf expression (reading e .tokens) s
       → (v : Value) (n : ℕ) → evaluation e t ≡ value v n → kindOf v ≡ fold (meaning e t) s .kind
 
 -- with a value, fewer operators were applied than the expression has tokens
@@ -44,15 +44,15 @@ abbrev pub Counted : (e t : List ℕ) → Type 0
 Counted e t = (v : Value) (n : ℕ) → evaluation e t ≡ value v n → n < length (reading e .tokens)
 
 -- a string's bytes are those at its place, and the place lies within the expression or the table
-abbrev pub Stands : (e t : List ℕ) → Value → Type 0
-Stands e t (number x) = Unit
-Stands e t (string p s) = (s ≡ bytesAt e t p) × (p .start .0 + p .len ≤ length (pick (p .tabled) t e))
-Stands e t (wide p s) = (s ≡ bytesAt e t p) × (p .start .0 + p .len ≤ length (pick (p .tabled) t e))
-Stands e t (fault r) = Unit
+abbrev pub InBounds : (e t : List ℕ) → Value → Type 0
+InBounds e t (number x) = Unit
+InBounds e t (string p s) = (s ≡ bytesAt e t p) × (p .start .0 + p .len ≤ length (pick (p .tabled) t e))
+InBounds e t (wide p s) = (s ≡ bytesAt e t p) × (p .start .0 + p .len ≤ length (pick (p .tabled) t e))
+InBounds e t (fault r) = Unit
 
 -- every string that is given stands so
-abbrev pub Placed : (e t : List ℕ) → Type 0
-Placed e t = (v : Value) (n : ℕ) → evaluation e t ≡ value v n → Stands e t v
+abbrev pub StringsInBounds : (e t : List ℕ) → Type 0
+StringsInBounds e t = (v : Value) (n : ℕ) → evaluation e t ≡ value v n → InBounds e t v
 
 -- an expression is no line of a file: a refusal of it by itself has line 0 (document 01, "Refusal numbers"), and so has a value
 abbrev pub WithoutLine : (e t : List ℕ) → Type 0

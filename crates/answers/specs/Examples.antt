@@ -9,12 +9,12 @@ use Rattle.text.specs.Bytes.{bytes, classOf}
 use Rattle.text.specs.Runs.{span}
 use Rattle.text.specs.Order.{compared}
 use Rattle.text.specs.Names.{macroName, pcdName}
-use Rattle.settings.specs.Table.{recordsIn, sound, ascending, wellFormed}
+use Rattle.settings.specs.Table.{recordsIn, wellFormedRecords, ascending, wellFormed}
 use Rattle.literal.specs.Literal.{digitOf, valueIn, literal, isDecimal, isHexadecimal, hexadecimalOf, numberOf}
 use Rattle.lexeme.specs.Lexeme.{stringOf, stringAt, spelled, isWide, wordOf, macroOf, begins, leading, lexemeBy, lexeme}
 use Rattle.token.specs.Tokens.{readToken, readByte, readFrom, tooDeep, checkDepth, reading}
 use Rattle.arithmetic.specs.Digits.{andDigits, orDigits}
-use Rattle.arithmetic.specs.Operators.{changed, applied, comparison, numbers}
+use Rattle.arithmetic.specs.Operators.{applyUnary, applyBinary, comparison, compareNumbers}
 use Rattle.codes.specs.Levels.{isUnary, levelOf}
 use Rattle.grammar.specs.Grammar.{isPrimary}
 use Rattle.grammar.specs.Parse.{run, parse}
@@ -53,5 +53,5 @@ examples =
     ∷ []
 
 pub examples-hold : map (λ x. evaluation (bytes (x .expression)) []) examples ≡ map (λ x. x .answer) examples
-unfolding evaluation ofTokens barOutside recordsIn sound ascending wellFormed reading readToken readByte readFrom tooDeep checkDepth classOf span compared macroName pcdName digitOf valueIn literal isDecimal isHexadecimal hexadecimalOf numberOf stringOf stringAt spelled isWide wordOf macroOf begins leading lexemeBy lexeme isPrimary isUnary levelOf run parse unaryKind binaryKind choiceKind andDigits orDigits changed applied comparison numbers primaryValue missingPcd unaryValue bothValues binaryValue choiceValue
+unfolding evaluation ofTokens barOutside recordsIn wellFormedRecords ascending wellFormed reading readToken readByte readFrom tooDeep checkDepth classOf span compared macroName pcdName digitOf valueIn literal isDecimal isHexadecimal hexadecimalOf numberOf stringOf stringAt spelled isWide wordOf macroOf begins leading lexemeBy lexeme isPrimary isUnary levelOf run parse unaryKind binaryKind choiceKind andDigits orDigits applyUnary applyBinary comparison compareNumbers primaryValue missingPcd unaryValue bothValues binaryValue choiceValue
 examples-hold = refl

@@ -14,9 +14,9 @@ use Rattle.line.specs.Directives.{directiveOf}
 use Rattle.condition.specs.Conditions.{countOf}
 use Rattle.nesting.specs.Groups.{Group, group}
 use Rattle.nesting.specs.Decide.{State, Outcome, go, stop, decided}
-use Rattle.select.specs.Step.{heard, step}
+use Rattle.select.specs.Step.{readCondition, step}
 use Rattle.select.specs.Select.{Result, accepted, refused, prepend, atEnd, after, run}
-use Rattle.select.proofs.Before.{never}
+use Rattle.select.proofs.LimitsCorrect.{never}
 use Rattle.blocks.specs.Decides.{WithinLimit}
 use Rattle.blocks.proofs.MayFollow.{Rest, nothing-left}
 use Rattle.blocks.proofs.GroupMoves.{flags, flags-length, Moved, Moving, moved-back, decided-moves}
@@ -31,13 +31,13 @@ unfolding step
 passed t n s l m s′ e = by (ltb 1024 (length l)) refl e
   where
     o : Outcome
-    o = decided (directiveOf l) (heard t (s .groups) l) n (s .count + countOf (heard t (s .groups) l)) (s .groups)
+    o = decided (directiveOf l) (readCondition t (s .groups) l) n (s .count + countOf (readCondition t (s .groups) l)) (s .groups)
 
     by : (b : Bool) → ltb 1024 (length l) ≡ b → pick b (stop LINE-LONG) o ≡ go m s′ → (length l ≤ 1024) × Moved (directiveOf l) n (s .groups) (s′ .groups)
     by true q e = never-goes _ LINE-LONG m s′ e
     by false q e =
-        let v : Moving (heard t (s .groups) l) (directiveOf l) n (s .groups) o =
-        decided-moves (directiveOf l) (heard t (s .groups) l) n (s .count + countOf (heard t (s .groups) l)) (s .groups) in
+        let v : Moving (readCondition t (s .groups) l) (directiveOf l) n (s .groups) o =
+        decided-moves (directiveOf l) (readCondition t (s .groups) l) n (s .count + countOf (readCondition t (s .groups) l)) (s .groups) in
         (ltb-false 1024 (length l) q, rw e at v)
 
 abbrev Follows : (gs : List Group) → List (List ℕ) → Type 0

@@ -8,9 +8,9 @@ use mathlib.Core.List.{List, [], append-nil}
 use Rattle.line.specs.Lines.{lines}
 use Rattle.nesting.specs.Decide.{state}
 use Rattle.select.specs.Select.{accepted, refused, run, start}
-use Rattle.select.proofs.Before.{never}
-use Rattle.select.proofs.Before.{runs}
-use Rattle.select.proofs.Before.{accepted-runs}
+use Rattle.select.proofs.LimitsCorrect.{never}
+use Rattle.select.proofs.LimitsCorrect.{runs}
+use Rattle.select.proofs.LimitsCorrect.{accepted-runs}
 use Rattle.blocks.specs.Blocks.{linesOf, Derives, depth}
 use Rattle.blocks.specs.Meaning.{Meaning, means, fault, meaning}
 use Rattle.blocks.specs.Decides.{WithinLimit, resultOf, Unambiguous, Sound, CompleteRun, Complete}

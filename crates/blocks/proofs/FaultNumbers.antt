@@ -5,13 +5,13 @@ use mathlib.Core.List.{List}
 use Rattle.text.specs.Bytes.{pick}
 use Rattle.line.specs.Directives.{directiveOf, textOf}
 use Rattle.line.specs.declared.Directive.the-variants.{Elseif, Else, Endif}
-use Rattle.condition.specs.Conditions.{says}
+use Rattle.condition.specs.Conditions.{evaluate}
 use Rattle.line.specs.declared.Condition.{Condition}
-use Rattle.line.specs.declared.Condition.the-variants.{Holds, Fails, Wrong}
+use Rattle.line.specs.declared.Condition.the-variants.{Holds, Fails, Refused}
 use Rattle.blocks.specs.Blocks.{Blocks, empty, line, group, Branches, endif, elseif, else}
 use Rattle.blocks.specs.Meaning.{Meaning, means, fault, single, _then_, branch, otherwise, closing, meaning, branches}
 use Rattle.blocks.specs.Refused.{FaultNumbers}
-use Rattle.blocks.proofs.TextFaults.{Other-than, InCondition, in-says}
+use Rattle.blocks.proofs.TextFaults.{Other-than, InCondition, in-condition}
 
 abbrev Sorted : Meaning → Type 0
 Sorted (means ms c) = Unit
@@ -31,20 +31,20 @@ module _ (body others : Bool → Meaning) (in-body : (b : Bool) → Sorted (body
   branch-sorted false c taken h = line-sorted 2 0 false taken
   branch-sorted true (Holds n) taken h = line-sorted 4 n true true
   branch-sorted true (Fails n) taken h = line-sorted 3 n false taken
-  branch-sorted true (Wrong k) taken h = h
+  branch-sorted true (Refused k) taken h = h
 
 otherwise-sorted : (taken : Bool) (c : Condition) → InCondition c → InCondition (otherwise taken c)
 otherwise-sorted true (Holds n) h = tt
 otherwise-sorted false (Holds n) h = tt
 otherwise-sorted true (Fails n) h = tt
 otherwise-sorted false (Fails n) h = tt
-otherwise-sorted taken (Wrong r) h = h
+otherwise-sorted taken (Refused r) h = h
 
 closing-sorted : (around : Bool) (c : Condition) → InCondition c → Sorted (closing around c)
 closing-sorted false c h = tt
 closing-sorted true (Holds n) h = tt
 closing-sorted true (Fails n) h = tt
-closing-sorted true (Wrong r) h = h
+closing-sorted true (Refused r) h = h
 
 module _ (t : List ℕ) where
   mutual
@@ -54,21 +54,21 @@ module _ (t : List ℕ) where
     blocks-sorted empty around = tt
     blocks-sorted (line l bs) around = then-sorted (single (pick around 1 0) 0) (meaning t around bs) tt (blocks-sorted bs around)
     blocks-sorted (group l body os bs) around =
-        let c : Condition = says t (directiveOf l) (textOf l) in
+        let c : Condition = evaluate t (directiveOf l) (textOf l) in
         let m : Meaning = branch around c false (λ b. meaning t b body) (λ b. branches t around b os) in
         let h = branch-sorted (λ b. meaning t b body) (λ b. branches t around b os) (λ b. blocks-sorted body b) (λ b. branches-sorted os around b)
-        around c false (in-says t (directiveOf l) (textOf l)) in
+        around c false (in-condition t (directiveOf l) (textOf l)) in
         then-sorted m (meaning t around bs) h (blocks-sorted bs around)
 
     branches-sorted : (os : Branches) (around taken : Bool) → Sorted (branches t around taken os)
-    branches-sorted (endif l) around taken = closing-sorted around (says t Endif (textOf l)) (in-says t Endif (textOf l))
+    branches-sorted (endif l) around taken = closing-sorted around (evaluate t Endif (textOf l)) (in-condition t Endif (textOf l))
     branches-sorted (elseif l body os) around taken =
         branch-sorted (λ b. meaning t b body) (λ b. branches t around b os) (λ b. blocks-sorted body b) (λ b. branches-sorted os around b)
-        (around && not taken) (says t Elseif (textOf l)) taken (in-says t Elseif (textOf l))
+        (around && not taken) (evaluate t Elseif (textOf l)) taken (in-condition t Elseif (textOf l))
     branches-sorted (else l body e) around taken =
-        branch-sorted (λ b. meaning t b body) (λ _. closing around (says t Endif (textOf e))) (λ b. blocks-sorted body b)
-        (λ _. closing-sorted around (says t Endif (textOf e)) (in-says t Endif (textOf e)))
-        around (otherwise taken (says t Else (textOf l))) taken (otherwise-sorted taken (says t Else (textOf l)) (in-says t Else (textOf l)))
+        branch-sorted (λ b. meaning t b body) (λ _. closing around (evaluate t Endif (textOf e))) (λ b. blocks-sorted body b)
+        (λ _. closing-sorted around (evaluate t Endif (textOf e)) (in-condition t Endif (textOf e)))
+        around (otherwise taken (evaluate t Else (textOf l))) taken (otherwise-sorted taken (evaluate t Else (textOf l)) (in-condition t Else (textOf l)))
 
 pub fault-numbers : FaultNumbers
 fault-numbers t bs r i e = let h : Sorted (fault r i) = rw e at (blocks-sorted t bs true) in h

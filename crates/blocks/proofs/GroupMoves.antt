@@ -12,12 +12,12 @@ use Rattle.line.specs.Directives.{directiveOf}
 use Rattle.line.specs.declared.Directive.{Directive}
 use Rattle.line.specs.declared.Directive.the-variants.{Plain, If, Ifdef, Ifndef, Elseif, Else, Endif, Unknown}
 use Rattle.line.specs.declared.Condition.{Condition}
-use Rattle.line.specs.declared.Condition.the-variants.{Holds, Fails, Wrong}
-use Rattle.ruling.specs.Standings.{live}
-use Rattle.ruling.specs.Rules.{elseifRuling, elseRuling, endRuling}
-use Rattle.ruling.specs.declared.Standing.{Standing}
-use Rattle.ruling.specs.declared.Standing.the-variants.{Outside, Dead, Seeking, Taken, Past}
-use Rattle.nesting.specs.Groups.{Group, group, standingOf}
+use Rattle.line.specs.declared.Condition.the-variants.{Holds, Fails, Refused}
+use Rattle.ruling.specs.States.{isActive}
+use Rattle.ruling.specs.Rules.{elseifTransition, elseTransition, endTransition}
+use Rattle.ruling.specs.declared.GroupState.{GroupState}
+use Rattle.ruling.specs.declared.GroupState.the-variants.{NoGroup, Skipped, Pending, Active, Done}
+use Rattle.nesting.specs.Groups.{Group, group, stateOf}
 use Rattle.nesting.specs.Decide.{Outcome, go, stop, openedBy, opened, opening, decided}
 use Rattle.blocks.specs.Blocks.{opens}
 use Rattle.blocks.proofs.StepByWord.{Inside}
@@ -126,65 +126,65 @@ Can Unknown fs = Unit
 -- wrong with that number
 abbrev pub Moving : Condition → Directive → ℕ → List Group → Outcome → Type 0
 Moving c d n gs (go m s) = Moved d n gs (s .groups)
-Moving c d n gs (stop r) = (c ≡ Wrong 19 → ⊥) → Proper gs → Can d (flags gs) → r ≡ 19 → ⊥
+Moving c d n gs (stop r) = (c ≡ Refused 19 → ⊥) → Proper gs → Can d (flags gs) → r ≡ 19 → ⊥
 
 opening-moves : (d : Directive) → opens d ≡ true → (c : Condition) (n k : ℕ) (gs : List Group) → Moving c d n gs (opening c n k gs)
 unfolding opening
-opening-moves d o c n k gs = by (leb 16 (length gs)) refl (live (standingOf gs)) c
+opening-moves d o c n k gs = by (leb 16 (length gs)) refl (isActive (stateOf gs)) c
   where
-    enters : (z : Standing) → Inside z → leb 16 (length gs) ≡ false → Moved d n gs (group z false n ∷ gs)
+    enters : (z : GroupState) → Inside z → leb 16 (length gs) ≡ false → Moved d n gs (group z false n ∷ gs)
     enters z i e = record { moves = enter o; at = sym (started-opens d n (starts gs) o); proper = λ p. (i, p); few = λ h. leb-false 16 (length gs) e }
 
     by : (a : Bool) → leb 16 (length gs) ≡ a → (b : Bool) (c : Condition)
-        → Moving c d n gs (pick a (stop 20) (pick b (openedBy c n k gs) (opened 2 Dead n k gs)))
+        → Moving c d n gs (pick a (stop 20) (pick b (openedBy c n k gs) (opened 2 Skipped n k gs)))
     by true e b c = λ w p a z. omega arith
-    by false e true (Holds j) = enters Taken tt e
-    by false e true (Fails j) = enters Seeking tt e
-    by false e true (Wrong r) = λ w p a z. w (ap Wrong z)
-    by false e false c = enters Dead tt e
+    by false e true (Holds j) = enters Active tt e
+    by false e true (Fails j) = enters Pending tt e
+    by false e true (Refused r) = λ w p a z. w (ap Refused z)
+    by false e false c = enters Skipped tt e
 
 elseif-moves : (c : Condition) (n k : ℕ) (gs : List Group) → Moving c Elseif n gs (decided Elseif c n k gs)
-unfolding decided elseifRuling
+unfolding decided elseifTransition
 elseif-moves c n k [] = λ w p a z. a
 elseif-moves c n k (group s true m ∷ gs) = λ w p a z. a
-elseif-moves c n k (group Outside false m ∷ gs) = λ w p a z. p .0
-elseif-moves c n k (group Dead false m ∷ gs) = record { moves = turn; at = refl; proper = λ p. (tt, p .1); few = λ h. omega arith }
-elseif-moves (Holds j) n k (group Seeking false m ∷ gs) = record { moves = turn; at = refl; proper = λ p. (tt, p .1); few = λ h. omega arith }
-elseif-moves (Fails j) n k (group Seeking false m ∷ gs) = record { moves = turn; at = refl; proper = λ p. (tt, p .1); few = λ h. omega arith }
-elseif-moves (Wrong r) n k (group Seeking false m ∷ gs) = λ w p a z. w (ap Wrong z)
-elseif-moves c n k (group Taken false m ∷ gs) = record { moves = turn; at = refl; proper = λ p. (tt, p .1); few = λ h. omega arith }
-elseif-moves c n k (group Past false m ∷ gs) = record { moves = turn; at = refl; proper = λ p. (tt, p .1); few = λ h. omega arith }
+elseif-moves c n k (group NoGroup false m ∷ gs) = λ w p a z. p .0
+elseif-moves c n k (group Skipped false m ∷ gs) = record { moves = turn; at = refl; proper = λ p. (tt, p .1); few = λ h. omega arith }
+elseif-moves (Holds j) n k (group Pending false m ∷ gs) = record { moves = turn; at = refl; proper = λ p. (tt, p .1); few = λ h. omega arith }
+elseif-moves (Fails j) n k (group Pending false m ∷ gs) = record { moves = turn; at = refl; proper = λ p. (tt, p .1); few = λ h. omega arith }
+elseif-moves (Refused r) n k (group Pending false m ∷ gs) = λ w p a z. w (ap Refused z)
+elseif-moves c n k (group Active false m ∷ gs) = record { moves = turn; at = refl; proper = λ p. (tt, p .1); few = λ h. omega arith }
+elseif-moves c n k (group Done false m ∷ gs) = record { moves = turn; at = refl; proper = λ p. (tt, p .1); few = λ h. omega arith }
 
 else-moves : (c : Condition) (n k : ℕ) (gs : List Group) → Moving c Else n gs (decided Else c n k gs)
-unfolding decided elseRuling
+unfolding decided elseTransition
 else-moves c n k [] = λ w p a z. a
 else-moves c n k (group s true m ∷ gs) = λ w p a z. a
-else-moves c n k (group Outside false m ∷ gs) = λ w p a z. p .0
-else-moves c n k (group Dead false m ∷ gs) = record { moves = final; at = refl; proper = λ p. (tt, p .1); few = λ h. omega arith }
-else-moves (Holds j) n k (group Seeking false m ∷ gs) = record { moves = final; at = refl; proper = λ p. (tt, p .1); few = λ h. omega arith }
-else-moves (Fails j) n k (group Seeking false m ∷ gs) = record { moves = final; at = refl; proper = λ p. (tt, p .1); few = λ h. omega arith }
-else-moves (Wrong r) n k (group Seeking false m ∷ gs) = λ w p a z. w (ap Wrong z)
-else-moves (Holds j) n k (group Taken false m ∷ gs) = record { moves = final; at = refl; proper = λ p. (tt, p .1); few = λ h. omega arith }
-else-moves (Fails j) n k (group Taken false m ∷ gs) = record { moves = final; at = refl; proper = λ p. (tt, p .1); few = λ h. omega arith }
-else-moves (Wrong r) n k (group Taken false m ∷ gs) = λ w p a z. w (ap Wrong z)
-else-moves (Holds j) n k (group Past false m ∷ gs) = record { moves = final; at = refl; proper = λ p. (tt, p .1); few = λ h. omega arith }
-else-moves (Fails j) n k (group Past false m ∷ gs) = record { moves = final; at = refl; proper = λ p. (tt, p .1); few = λ h. omega arith }
-else-moves (Wrong r) n k (group Past false m ∷ gs) = λ w p a z. w (ap Wrong z)
+else-moves c n k (group NoGroup false m ∷ gs) = λ w p a z. p .0
+else-moves c n k (group Skipped false m ∷ gs) = record { moves = final; at = refl; proper = λ p. (tt, p .1); few = λ h. omega arith }
+else-moves (Holds j) n k (group Pending false m ∷ gs) = record { moves = final; at = refl; proper = λ p. (tt, p .1); few = λ h. omega arith }
+else-moves (Fails j) n k (group Pending false m ∷ gs) = record { moves = final; at = refl; proper = λ p. (tt, p .1); few = λ h. omega arith }
+else-moves (Refused r) n k (group Pending false m ∷ gs) = λ w p a z. w (ap Refused z)
+else-moves (Holds j) n k (group Active false m ∷ gs) = record { moves = final; at = refl; proper = λ p. (tt, p .1); few = λ h. omega arith }
+else-moves (Fails j) n k (group Active false m ∷ gs) = record { moves = final; at = refl; proper = λ p. (tt, p .1); few = λ h. omega arith }
+else-moves (Refused r) n k (group Active false m ∷ gs) = λ w p a z. w (ap Refused z)
+else-moves (Holds j) n k (group Done false m ∷ gs) = record { moves = final; at = refl; proper = λ p. (tt, p .1); few = λ h. omega arith }
+else-moves (Fails j) n k (group Done false m ∷ gs) = record { moves = final; at = refl; proper = λ p. (tt, p .1); few = λ h. omega arith }
+else-moves (Refused r) n k (group Done false m ∷ gs) = λ w p a z. w (ap Refused z)
 
 endif-moves : (c : Condition) (n k : ℕ) (gs : List Group) → Moving c Endif n gs (decided Endif c n k gs)
-unfolding decided endRuling
+unfolding decided endTransition
 endif-moves c n k [] = λ w p a z. a
-endif-moves c n k (group Outside b m ∷ gs) = λ w p a z. p .0
-endif-moves c n k (group Dead b m ∷ gs) = record { moves = leave; at = refl; proper = λ p. p .1; few = λ h. omega arith }
-endif-moves (Holds j) n k (group Seeking b m ∷ gs) = record { moves = leave; at = refl; proper = λ p. p .1; few = λ h. omega arith }
-endif-moves (Fails j) n k (group Seeking b m ∷ gs) = record { moves = leave; at = refl; proper = λ p. p .1; few = λ h. omega arith }
-endif-moves (Wrong r) n k (group Seeking b m ∷ gs) = λ w p a z. w (ap Wrong z)
-endif-moves (Holds j) n k (group Taken b m ∷ gs) = record { moves = leave; at = refl; proper = λ p. p .1; few = λ h. omega arith }
-endif-moves (Fails j) n k (group Taken b m ∷ gs) = record { moves = leave; at = refl; proper = λ p. p .1; few = λ h. omega arith }
-endif-moves (Wrong r) n k (group Taken b m ∷ gs) = λ w p a z. w (ap Wrong z)
-endif-moves (Holds j) n k (group Past b m ∷ gs) = record { moves = leave; at = refl; proper = λ p. p .1; few = λ h. omega arith }
-endif-moves (Fails j) n k (group Past b m ∷ gs) = record { moves = leave; at = refl; proper = λ p. p .1; few = λ h. omega arith }
-endif-moves (Wrong r) n k (group Past b m ∷ gs) = λ w p a z. w (ap Wrong z)
+endif-moves c n k (group NoGroup b m ∷ gs) = λ w p a z. p .0
+endif-moves c n k (group Skipped b m ∷ gs) = record { moves = leave; at = refl; proper = λ p. p .1; few = λ h. omega arith }
+endif-moves (Holds j) n k (group Pending b m ∷ gs) = record { moves = leave; at = refl; proper = λ p. p .1; few = λ h. omega arith }
+endif-moves (Fails j) n k (group Pending b m ∷ gs) = record { moves = leave; at = refl; proper = λ p. p .1; few = λ h. omega arith }
+endif-moves (Refused r) n k (group Pending b m ∷ gs) = λ w p a z. w (ap Refused z)
+endif-moves (Holds j) n k (group Active b m ∷ gs) = record { moves = leave; at = refl; proper = λ p. p .1; few = λ h. omega arith }
+endif-moves (Fails j) n k (group Active b m ∷ gs) = record { moves = leave; at = refl; proper = λ p. p .1; few = λ h. omega arith }
+endif-moves (Refused r) n k (group Active b m ∷ gs) = λ w p a z. w (ap Refused z)
+endif-moves (Holds j) n k (group Done b m ∷ gs) = record { moves = leave; at = refl; proper = λ p. p .1; few = λ h. omega arith }
+endif-moves (Fails j) n k (group Done b m ∷ gs) = record { moves = leave; at = refl; proper = λ p. p .1; few = λ h. omega arith }
+endif-moves (Refused r) n k (group Done b m ∷ gs) = λ w p a z. w (ap Refused z)
 
 pub decided-moves : (d : Directive) (c : Condition) (n k : ℕ) (gs : List Group) → Moving c d n gs (decided d c n k gs)
 unfolding decided

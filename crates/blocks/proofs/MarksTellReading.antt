@@ -10,11 +10,11 @@ use Rattle.text.specs.Bytes.{pick}
 use Rattle.line.specs.Directives.{directiveOf, textOf}
 use Rattle.line.specs.Lines.{lines}
 use Rattle.line.specs.declared.Directive.the-variants.{Elseif, Else, Endif}
-use Rattle.condition.specs.Conditions.{says}
+use Rattle.condition.specs.Conditions.{evaluate}
 use Rattle.line.specs.declared.Condition.{Condition}
-use Rattle.line.specs.declared.Condition.the-variants.{Holds, Fails, Wrong}
+use Rattle.line.specs.declared.Condition.the-variants.{Holds, Fails, Refused}
 use Rattle.isolation.specs.Isolation.{Read}
-use Rattle.select.proofs.Marked.{marks-each-line}
+use Rattle.select.proofs.MarksEachLine.{marks-each-line}
 use Rattle.blocks.specs.Blocks.{Blocks, empty, line, group, Branches, endif, elseif, else}
 use Rattle.blocks.specs.Meaning.{Meaning, means, fault, single, _then_, branch, otherwise, closing, meaning, branches}
 use Rattle.blocks.specs.Reading.{holds, readsOf, readsIn}
@@ -66,7 +66,7 @@ module _ (reads-body reads-others : Bool → List Bool) (body others : Bool → 
   branch-shows true (Holds n) false = line-shows true 4 n true true (read 4 n (omega arith) (omega arith))
   branch-shows true (Fails n) true = line-shows true 3 n false true (read 3 n (omega arith) (omega arith))
   branch-shows true (Fails n) false = line-shows true 3 n false false (read 3 n (omega arith) (omega arith))
-  branch-shows true (Wrong k) earlier = tt
+  branch-shows true (Refused k) earlier = tt
 
 -- an `!else`, whose text says nothing of its branch
 else-shows : (reads-body : Bool → List Bool) (reads-end : List Bool) (body : Bool → Meaning) (end : Meaning)
@@ -84,13 +84,13 @@ else-shows rb re body end h k around c earlier = by around c earlier
     by true (Holds n) false = one true 4 n true (read 4 n (omega arith) (omega arith))
     by true (Fails n) true = one true 3 n false (read 3 n (omega arith) (omega arith))
     by true (Fails n) false = one true 4 n true (read 4 n (omega arith) (omega arith))
-    by true (Wrong r) earlier = tt
+    by true (Refused r) earlier = tt
 
 closing-shows : (around : Bool) (c : Condition) → Shows (around ∷ []) (closing around c)
 closing-shows false c = unread 2 0 (omega arith)
 closing-shows true (Holds n) = read 5 n (omega arith) (omega arith)
 closing-shows true (Fails n) = read 5 n (omega arith) (omega arith)
-closing-shows true (Wrong r) = tt
+closing-shows true (Refused r) = tt
 
 plain-shows : (around : Bool) → Shows (false ∷ []) (single (pick around 1 0) 0)
 plain-shows true = unread 1 0 (omega arith)
@@ -105,7 +105,7 @@ module _ (t : List ℕ) where
     blocks-show (line l bs) around =
         shows-then (false ∷ []) (readsOf t around bs) (single (pick around 1 0) 0) (meaning t around bs) (plain-shows around) (blocks-show bs around)
     blocks-show (group l body os bs) around =
-        let c : Condition = says t (directiveOf l) (textOf l) in
+        let c : Condition = evaluate t (directiveOf l) (textOf l) in
         let taken : Bool = around && holds c in
         let h = branch-shows (λ b. readsOf t b body) (λ b. readsIn t around b os) (λ b. meaning t b body) (λ b. branches t around b os)
         (λ b. blocks-show body b) (λ b. branches-show os around b) around c false in
@@ -116,13 +116,13 @@ module _ (t : List ℕ) where
         rw e (shows-then r (readsOf t around bs) m (meaning t around bs) h (blocks-show bs around))
 
     branches-show : (os : Branches) (around earlier : Bool) → Shows (readsIn t around earlier os) (branches t around earlier os)
-    branches-show (endif l) around earlier = closing-shows around (says t Endif (textOf l))
+    branches-show (endif l) around earlier = closing-shows around (evaluate t Endif (textOf l))
     branches-show (elseif l body os) around earlier =
         branch-shows (λ b. readsOf t b body) (λ b. readsIn t around b os) (λ b. meaning t b body) (λ b. branches t around b os)
-        (λ b. blocks-show body b) (λ b. branches-show os around b) (around && not earlier) (says t Elseif (textOf l)) earlier
+        (λ b. blocks-show body b) (λ b. branches-show os around b) (around && not earlier) (evaluate t Elseif (textOf l)) earlier
     branches-show (else l body e) around earlier =
-        else-shows (λ b. readsOf t b body) (around ∷ []) (λ b. meaning t b body) (closing around (says t Endif (textOf e)))
-        (λ b. blocks-show body b) (closing-shows around (says t Endif (textOf e))) around (says t Else (textOf l)) earlier
+        else-shows (λ b. readsOf t b body) (around ∷ []) (λ b. meaning t b body) (closing around (evaluate t Endif (textOf e)))
+        (λ b. blocks-show body b) (closing-shows around (evaluate t Endif (textOf e))) around (evaluate t Else (textOf l)) earlier
 
 tells-at : (bs : List Bool) (ms : List ℕ) (i : ℕ) → Tells bs ms → i < length ms
     → ((getD bs i false ≡ true) ↔ Read (getD ms i 0)) × (getD ms i 0 ≤ 5)

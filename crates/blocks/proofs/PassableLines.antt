@@ -10,9 +10,9 @@ use Rattle.text.specs.Runs.{span}
 use Rattle.text.specs.Order.{compared}
 use Rattle.line.specs.Directives.{named, wordStart, textStart, directiveOf, textOf}
 use Rattle.line.specs.declared.Directive.the-variants.{Endif}
-use Rattle.condition.specs.Conditions.{idle, says}
+use Rattle.condition.specs.Conditions.{idle, evaluate}
 use Rattle.line.specs.declared.Condition.the-variants.{Holds}
-use Rattle.ruling.specs.Standings.{around}
+use Rattle.ruling.specs.States.{isEnclosedLive}
 use Rattle.nesting.specs.Groups.{Group, group as entry}
 use Rattle.nesting.specs.Decide.{State, state}
 use Rattle.select.specs.Select.{Result, accepted, prepend, run, start}
@@ -50,9 +50,9 @@ pub rest-derives : (ls : List (List ℕ)) (r : Rest 16 [] ls) → Derives ls (r 
 rest-derives ls r = (record { lines = r .lines ∙ rw (r .next, append-nil); words = r .fits }, omega (arith, r .deep))
 
 -- every open group can be closed with no fault
-endif-says : (t : List ℕ) → says t Endif (textOf (bytes "!endif")) ≡ Holds 0
-unfolding says idle named wordStart textStart directiveOf span compared classOf
-endif-says t = refl
+endif-condition : (t : List ℕ) → evaluate t Endif (textOf (bytes "!endif")) ≡ Holds 0
+unfolding evaluate idle named wordStart textStart directiveOf span compared classOf
+endif-condition t = refl
 
 abbrev Accepting : Result → Type 0
 Accepting r = (ms : List ℕ) × (c : ℕ) × (r ≡ accepted ms c)
@@ -70,9 +70,9 @@ closers-accepting t [] p n k = ([], k, refl)
 closers-accepting t (entry z b m ∷ gs) p n k =
     let e = end-goes t z b m gs (bytes "!endif") (closers (flags gs)) (p .0) an-endif endif-short n k in
     let f : ℕ → ℕ → Result = λ n k. run t n (state gs k) (closers (flags gs)) in
-    let q : run t n (state (entry z b m ∷ gs) k) (bytes "!endif" ∷ closers (flags gs)) ≡ follow n k (closing (around z) (Holds 0)) f =
-    rw (endif-says t) at e in
-    let w = closing-accepting (around z) n k f (λ n′ k′. closers-accepting t gs (p .1) n′ k′) in
+    let q : run t n (state (entry z b m ∷ gs) k) (bytes "!endif" ∷ closers (flags gs)) ≡ follow n k (closing (isEnclosedLive z) (Holds 0)) f =
+    rw (endif-condition t) at e in
+    let w = closing-accepting (isEnclosedLive z) n k f (λ n′ k′. closers-accepting t gs (p .1) n′ k′) in
     (w .0, w .1, q ∙ w .2)
 
 pub passes-passable : (t : List ℕ) (ls : List (List ℕ)) (s : State) → Passes t 1 start ls s → Passable t ls

@@ -14,9 +14,9 @@ use Rattle.line.specs.declared.Directive.the-variants.{Plain, If, Ifdef, Ifndef
 use Rattle.condition.specs.Conditions.{countOf}
 use Rattle.line.specs.declared.Condition.{Condition}
 use Rattle.nesting.specs.Decide.{State, stop, decided}
-use Rattle.select.specs.Step.{heard, step}
+use Rattle.select.specs.Step.{readCondition, step}
 use Rattle.select.specs.Select.{Result, accepted, refused, run, start}
-use Rattle.select.proofs.Before.{never}
+use Rattle.select.proofs.LimitsCorrect.{never}
 use Rattle.select.proofs.Steps.{long-step, decided-step}
 use Rattle.blocks.specs.Blocks.{Blocks, opens, Derives, depth}
 use Rattle.blocks.specs.Meaning.{fault, meaning}
@@ -72,7 +72,7 @@ module _ (t : List ℕ) (ls : List (List ℕ)) (s : State) (p : Passes t 1 start
   m = 1 + length ls
 
   abbrev c : Condition
-  c = heard t (s .groups) l
+  c = readCondition t (s .groups) l
 
   few : length (s .groups) ≤ 16
   few = passes-back t ls 1 start s [] p (omega arith) .0

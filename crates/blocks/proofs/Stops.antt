@@ -9,7 +9,7 @@ use lib.ListN.{length}
 use Rattle.nesting.specs.Decide.{State, Outcome, go, stop}
 use Rattle.select.specs.Step.{step}
 use Rattle.select.specs.Select.{Result, accepted, refused, prepend, atEnd, after, run}
-use Rattle.select.proofs.Before.{never}
+use Rattle.select.proofs.LimitsCorrect.{never}
 use Rattle.blocks.proofs.Passing.{Passes}
 use Rattle.blocks.proofs.Continuation.{onto}
 use Rattle.blocks.proofs.RunMeaning.{run-go}

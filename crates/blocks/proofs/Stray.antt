@@ -10,10 +10,10 @@ use Rattle.line.specs.declared.Directive.{Directive}
 use Rattle.line.specs.declared.Directive.the-variants.{Plain, If, Ifdef, Ifndef, Elseif, Else, Endif, Unknown}
 use Rattle.condition.specs.Conditions.{countOf}
 use Rattle.line.specs.declared.Condition.{Condition}
-use Rattle.ruling.specs.Rules.{elseifRuling, elseRuling, endRuling}
+use Rattle.ruling.specs.Rules.{elseifTransition, elseTransition, endTransition}
 use Rattle.nesting.specs.Groups.{Group, group}
 use Rattle.nesting.specs.Decide.{State, stop, decided}
-use Rattle.select.specs.Step.{heard, step}
+use Rattle.select.specs.Step.{readCondition, step}
 use Rattle.select.specs.Select.{start}
 use Rattle.select.proofs.Steps.{decided-step}
 use Rattle.blocks.specs.Blocks.{Blocks, opens, Derives, depth}
@@ -60,7 +60,7 @@ moves-can leave = tt
 module _ (c : Condition) (n k : ℕ) (R : Type 0) where
   pub move-or-stray : (d : Directive) → (d ≡ Unknown → ⊥) → (gs : List Group) → ((hs : List Bool) → Moves d (flags gs) hs → R)
       → (decided d c n k gs ≡ stop 19 → R) → R
-  unfolding decided elseifRuling elseRuling endRuling
+  unfolding decided elseifTransition elseTransition endTransition
   move-or-stray Plain u gs f g = f (flags gs) stay
   move-or-stray If u gs f g = f (false ∷ flags gs) (enter refl)
   move-or-stray Ifdef u gs f g = f (false ∷ flags gs) (enter refl)
@@ -95,7 +95,7 @@ module _ (t : List ℕ) (ls : List (List ℕ)) (s : State) (p : Passes t 1 start
     pub not-both : step t n s l ≡ stop 19 → Begins (ls ++ (l ∷ [])) → ⊥
     not-both e b =
         let m = begins-moves l b in
-        let c = heard t (s .groups) l in
+        let c = readCondition t (s .groups) l in
         let f = decided-moves (directiveOf l) c n (s .count + countOf c) (s .groups) in
         let g : Moving c (directiveOf l) n (s .groups) (stop 19) = rw (sym (decided-step t n s l short) ∙ e) at f in
         g (never-own t (s .groups) l 19 (omega arith) (omega arith)) (passes-proper t ls 1 start s p tt) (moves-can (m .1)) refl
@@ -103,7 +103,7 @@ module _ (t : List ℕ) (ls : List (List ℕ)) (s : State) (p : Passes t 1 start
     pub refuses : (directiveOf l ≡ Unknown → ⊥) → (Begins (ls ++ (l ∷ [])) → ⊥) → step t n s l ≡ stop 19
     refuses known h =
         decided-step t n s l short
-        ∙ move-or-stray (heard t (s .groups) l) n (s .count + countOf (heard t (s .groups) l)) _ (directiveOf l) known (s .groups)
+        ∙ move-or-stray (readCondition t (s .groups) l) n (s .count + countOf (readCondition t (s .groups) l)) _ (directiveOf l) known (s .groups)
         (λ gs m. absurd (h (moves-begins l gs m))) (λ e. e)
 
 pub stray : Stray

@@ -14,7 +14,7 @@ use Rattle.line.specs.Directives.{directiveOf}
 use Rattle.condition.specs.Conditions.{countOf}
 use Rattle.nesting.specs.Groups.{Group, group}
 use Rattle.nesting.specs.Decide.{State, stop, decided}
-use Rattle.select.specs.Step.{heard, step}
+use Rattle.select.specs.Step.{readCondition, step}
 use Rattle.select.specs.Select.{refused, atEnd, start}
 use Rattle.blocks.specs.Beginnings.{Begins}
 use Rattle.blocks.proofs.Passing.{StrayLine}
@@ -27,7 +27,8 @@ unfolding step
 stray-short t n s l e = by (ltb 1024 (length l)) refl e
   where
     by : (b : Bool) → ltb 1024 (length l) ≡ b
-        → pick b (stop LINE-LONG) (decided (directiveOf l) (heard t (s .groups) l) n (s .count + countOf (heard t (s .groups) l)) (s .groups)) ≡ stop 19
+        → pick b (stop LINE-LONG) (decided (directiveOf l) (readCondition t (s .groups) l) n
+        (s .count + countOf (readCondition t (s .groups) l)) (s .groups)) ≡ stop 19
         → length l ≤ 1024
     by true q e = let z : _≡_ {A = ℕ} 17 19 = cc in absurd (omega arith)
     by false q e = ltb-false 1024 (length l) q

@@ -11,7 +11,7 @@ use lib.ListN.{length, getD, take, drop}
 use lib.Dec.{eqb, ltb}
 use Rattle.text.specs.Bytes.{byte, pick, classOf}
 use Rattle.text.specs.Runs.{span, stringSet}
-use Rattle.text.specs.Order.{alike}
+use Rattle.text.specs.Order.{equal}
 use Rattle.text.specs.Names.{macroName, pcdName}
 use Rattle.text.specs.declared.bytes.Class.{Class}
 use Rattle.text.specs.declared.bytes.Class.the-variants.{Initial, Digit, Quote, Blank, Operator, Dollar, Comment, Other}
@@ -22,8 +22,8 @@ use Rattle.codes.specs.Spellings.{Spelling, words, symbols}
 use Rattle.codes.specs.Codes.{STRING, WIDE}
 use Rattle.literal.specs.Literal.{literal, isDecimal, isHexadecimal, hexadecimalOf, numberOf}
 use Rattle.lexeme.specs.Lexeme.{stringOf, stringAt, spelled, isWide, wordOf, macroOf, begins, leading, lexemeBy, lexeme}
-use Rattle.codes.specs.declared.Lexeme.{Lexeme}
-use Rattle.codes.specs.declared.Lexeme.the-variants.{Found, Wrong as Bad}
+use Rattle.codes.specs.declared.Scanned.{Scanned}
+use Rattle.codes.specs.declared.Scanned.the-variants.{Found, Refused as Bad}
 use Rattle.token.specs.Tokens.{Token, Reading, readToken, readByte, readFrom, tooDeep, checkDepth, codesOf, reading}
 use Rattle.token.specs.declared.scan.Ending.{Ending}
 use Rattle.token.specs.declared.scan.Ending.the-variants.{Complete, Refused}
@@ -34,28 +34,28 @@ use Rattle.grammar.specs.Parse.{Outcome, refused as underived, accepted, parse}
 use Rattle.grammar.proofs.Decided.{evaluates}
 use Rattle.value.specs.Values.{Value, number, string, wide, fault}
 use Rattle.value.specs.Attributes.{Attributes}
-use Rattle.soundness.specs.Settled.{Late, Suits, Settles}
+use Rattle.soundness.specs.Settled.{RuntimeRefusal, HasKind, KindSound}
 use Rattle.value.specs.declared.Kind.{Kind}
 use Rattle.expression.specs.Meaning.{codeOf, meaning}
-use Rattle.evaluation.specs.Evaluation.{Evaluation, value, refused, finished, clashes, judged, tokenIn, concluded, ofTokens, ended, evaluation}
+use Rattle.evaluation.specs.Evaluation.{Evaluation, value, refused, answerValue, clashes, checkThenAnswer, tokenIn, answerTokens, ofTokens, ended, evaluation}
 use Rattle.evaluation.proofs.FromTree.{tokens-read}
-use Rattle.answers.proofs.Answered.{settles, alive}
+use Rattle.answers.proofs.Answered.{kind-sound, alive}
 use Rattle.line.specs.Directives.{directiveOf, textOf}
 use Rattle.line.specs.declared.Directive.{Directive}
 use Rattle.line.specs.declared.Directive.the-variants.{Plain, If, Ifdef, Ifndef, Elseif, Else, Endif, Unknown}
-use Rattle.condition.specs.Conditions.{spaced, idle, ofAnswer, expressionSays, nameAt, alone, absent, namedSays, nameSays, says}
+use Rattle.condition.specs.Conditions.{spaced, idle, ofAnswer, ofExpression, nameAt, alone, absent, ofNamed, ofMacro, evaluate}
 use Rattle.line.specs.declared.Condition.{Condition}
-use Rattle.line.specs.declared.Condition.the-variants.{Holds, Fails, Wrong}
+use Rattle.line.specs.declared.Condition.the-variants.{Holds, Fails, Refused}
 use Rattle.condition.specs.declared.macros.Named.{Named}
-use Rattle.ruling.specs.Standings.{reads}
-use Rattle.nesting.specs.Groups.{Group, standingOf}
-use Rattle.select.specs.Step.{heard}
+use Rattle.ruling.specs.States.{reads}
+use Rattle.nesting.specs.Groups.{Group, stateOf}
+use Rattle.select.specs.Step.{readCondition}
 
 abbrev pub Other-than : ℕ → Type 0
 Other-than r = 17 ≤ r → r ≤ 21 → ⊥
 
 -- a token
-abbrev InLexeme : Lexeme → Type 0
+abbrev InLexeme : Scanned → Type 0
 InLexeme (Found f) = Unit
 InLexeme (Bad r) = Other-than r
 
@@ -76,7 +76,7 @@ in-string code k s = pick-case InLexeme (eqb (getD s (k + 1 + span (stringSet (g
 in-spelled : (xs : List Spelling) (w : List ℕ) → InLexeme (spelled xs w)
 unfolding spelled
 in-spelled [] w = λ a b. omega arith
-in-spelled (x ∷ xs) w = pick-case InLexeme (alike w (x .text)) (λ _. tt) (λ _. in-spelled xs w)
+in-spelled (x ∷ xs) w = pick-case InLexeme (equal w (x .text)) (λ _. tt) (λ _. in-spelled xs w)
 
 in-word : (n : ℕ) (s : List ℕ) → InLexeme (wordOf n s)
 unfolding wordOf
@@ -118,13 +118,13 @@ in-read at room k [] = tt
 in-read at room (suc k) (b ∷ s) = in-read (suc at) room k s
 in-read at room zero (b ∷ s) = by-byte (classOf b) room (lexeme (b ∷ s)) (in-lexeme (b ∷ s)) (λ room′ k′. in-read (suc at) room′ k′ s)
   where
-    by-token : (room : ℕ) (x : Lexeme) → InLexeme x → ((room′ k′ : ℕ) → InEnding (readFrom (suc at) room′ k′ s .ending))
+    by-token : (room : ℕ) (x : Scanned) → InLexeme x → ((room′ k′ : ℕ) → InEnding (readFrom (suc at) room′ k′ s .ending))
         → InEnding (readToken room x at (λ room′ inside′. readFrom (suc at) room′ inside′ s) .ending)
     by-token zero x w ih = λ a b. omega arith
     by-token (suc room) (Bad r) w ih = w
     by-token (suc room) (Found f) w ih = ih room (f .len - 1)
 
-    by-byte : (c : Class) (room : ℕ) (x : Lexeme) → InLexeme x → ((room′ k′ : ℕ) → InEnding (readFrom (suc at) room′ k′ s .ending))
+    by-byte : (c : Class) (room : ℕ) (x : Scanned) → InLexeme x → ((room′ k′ : ℕ) → InEnding (readFrom (suc at) room′ k′ s .ending))
         → InEnding (readByte c room x at (λ room′ inside′. readFrom (suc at) room′ inside′ s) .ending)
     by-byte Blank room x w ih = ih room 0
     by-byte Comment room x w ih = tt
@@ -151,17 +151,17 @@ abbrev InAnswer : Evaluation → Type 0
 InAnswer (value v n) = Unit
 InAnswer (refused r) = Other-than (r .number)
 
-late : (n : ℕ) → Late n → Other-than n
+late : (n : ℕ) → RuntimeRefusal n → Other-than n
 late n (inl h) a b = omega arith
 late n (inr h) a b = omega arith
 
-in-finished : (k : Kind) (v : Value) (n : ℕ) → Suits k v → InAnswer (finished v n)
+in-finished : (k : Kind) (v : Value) (n : ℕ) → HasKind k v → InAnswer (answerValue v n)
 in-finished k (number x) n h = tt
 in-finished k (string p s) n h = tt
 in-finished k (wide p s) n h = tt
 in-finished k (fault r) n h = late r h
 
-in-judged : (bar : Bool) (a : Attributes) → Settles a → InAnswer (judged bar a)
+in-judged : (bar : Bool) (a : Attributes) → KindSound a → InAnswer (checkThenAnswer bar a)
 in-judged bar a h =
     pick-case InAnswer bar (λ _ a b. omega arith)
     (λ _. pick-case InAnswer (a .missing) (λ _ a b. omega arith)
@@ -173,15 +173,16 @@ unfolding evaluation ofTokens
 in-answer e t = pick-case InAnswer (wellFormed t) (λ _. by (reading e .ending) (in-reading e)) (λ _ a b. omega arith)
   where
     parsed : (o : Outcome Attributes) → parse codeOf (meaning e t) (tokenIn (reading e .tokens)) (length (reading e .tokens)) ≡ o
-        → InAnswer (concluded (codesOf (reading e .tokens)) o)
+        → InAnswer (answerTokens (codesOf (reading e .tokens)) o)
     parsed (underived i) p = λ a b. omega arith
     parsed (accepted a) p =
         let r = evaluates (tokens-read e t) (meaning e t) .accepted-exactly a .0 p in
-        let q : Settles a = rw (r .2) (settles e t (r .0)) in
+        let q : KindSound a = rw (r .2) (kind-sound e t (r .0)) in
         in-judged (barOutside 0 (codesOf (reading e .tokens))) a q
 
     by : (x : Ending) → InEnding x
-        → InAnswer (ended x (concluded (codesOf (reading e .tokens)) (parse codeOf (meaning e t) (tokenIn (reading e .tokens)) (length (reading e .tokens)))))
+        → InAnswer (ended x (answerTokens (codesOf (reading e .tokens))
+        (parse codeOf (meaning e t) (tokenIn (reading e .tokens)) (length (reading e .tokens)))))
     by (Refused r) h = h
     by Complete h = parsed (parse codeOf (meaning e t) (tokenIn (reading e .tokens)) (length (reading e .tokens))) refl
 
@@ -189,7 +190,7 @@ in-answer e t = pick-case InAnswer (wellFormed t) (λ _. by (reading e .ending) 
 abbrev pub InCondition : Condition → Type 0
 InCondition (Holds n) = Unit
 InCondition (Fails n) = Unit
-InCondition (Wrong r) = Other-than r
+InCondition (Refused r) = Other-than r
 
 of-answer : (x : Evaluation) → InAnswer x → InCondition (ofAnswer x)
 unfolding ofAnswer
@@ -200,37 +201,37 @@ of-answer (value (wide p s) n) h = λ a b. omega arith
 of-answer (value (fault r) n) h = λ a b. omega arith
 of-answer (refused r) h = h
 
-in-expression : (t s : List ℕ) → InCondition (expressionSays t s)
-unfolding expressionSays
+in-expression : (t s : List ℕ) → InCondition (ofExpression t s)
+unfolding ofExpression
 in-expression t s = pick-case InCondition (spaced s) (λ _. of-answer (evaluation s t) (in-answer s t)) (λ _ a b. omega arith)
 
-in-named : (t : List ℕ) (wanted : Bool) (s : List ℕ) (n : Named) → InCondition (namedSays t wanted s n)
-unfolding namedSays
+in-named : (t : List ℕ) (wanted : Bool) (s : List ℕ) (n : Named) → InCondition (ofNamed t wanted s n)
+unfolding ofNamed
 in-named t wanted s n =
     pick-case InCondition (alone s n) (λ _. pick-case InCondition (pick wanted (not (absent t s n)) (absent t s n)) (λ _. tt) (λ _. tt)) (λ _ a b. omega arith)
 
-in-name : (t : List ℕ) (wanted : Bool) (s : List ℕ) → InCondition (nameSays t wanted s)
-unfolding nameSays
+in-name : (t : List ℕ) (wanted : Bool) (s : List ℕ) → InCondition (ofMacro t wanted s)
+unfolding ofMacro
 in-name t wanted s = pick-case InCondition (spaced s) (λ _. in-named t wanted (drop (span Blanks s) s) (nameAt (drop (span Blanks s) s))) (λ _ a b. omega arith)
 
-in-nothing : (s : List ℕ) → InCondition (pick (idle s) (Holds 0) (Wrong 22))
+in-nothing : (s : List ℕ) → InCondition (pick (idle s) (Holds 0) (Refused 22))
 in-nothing s = pick-case InCondition (idle s) (λ _. tt) (λ _ a b. omega arith)
 
-pub in-says : (t : List ℕ) (d : Directive) (s : List ℕ) → InCondition (says t d s)
-unfolding says
-in-says t Plain s = tt
-in-says t If s = in-expression t s
-in-says t Ifdef s = in-name t true s
-in-says t Ifndef s = in-name t false s
-in-says t Elseif s = in-expression t s
-in-says t Else s = in-nothing s
-in-says t Endif s = in-nothing s
-in-says t Unknown s = tt
+pub in-condition : (t : List ℕ) (d : Directive) (s : List ℕ) → InCondition (evaluate t d s)
+unfolding evaluate
+in-condition t Plain s = tt
+in-condition t If s = in-expression t s
+in-condition t Ifdef s = in-name t true s
+in-condition t Ifndef s = in-name t false s
+in-condition t Elseif s = in-expression t s
+in-condition t Else s = in-nothing s
+in-condition t Endif s = in-nothing s
+in-condition t Unknown s = tt
 
 -- what is heard of a line
-in-heard : (t : List ℕ) (gs : List Group) (l : List ℕ) → InCondition (heard t gs l)
-unfolding heard
-in-heard t gs l = pick-case InCondition (reads (directiveOf l) (standingOf gs)) (λ _. in-says t (directiveOf l) (textOf l)) (λ _. tt)
+in-read-condition : (t : List ℕ) (gs : List Group) (l : List ℕ) → InCondition (readCondition t gs l)
+unfolding readCondition
+in-read-condition t gs l = pick-case InCondition (reads (directiveOf l) (stateOf gs)) (λ _. in-condition t (directiveOf l) (textOf l)) (λ _. tt)
 
-pub never-own : (t : List ℕ) (gs : List Group) (l : List ℕ) (r : ℕ) → 17 ≤ r → r ≤ 21 → heard t gs l ≡ Wrong r → ⊥
-never-own t gs l r a b e = let h : InCondition (Wrong r) = rw e at (in-heard t gs l) in h a b
+pub never-own : (t : List ℕ) (gs : List Group) (l : List ℕ) (r : ℕ) → 17 ≤ r → r ≤ 21 → readCondition t gs l ≡ Refused r → ⊥
+never-own t gs l r a b e = let h : InCondition (Refused r) = rw e at (in-read-condition t gs l) in h a b

@@ -12,13 +12,13 @@ use Rattle.line.specs.declared.Directive.{Directive}
 use Rattle.line.specs.declared.Directive.the-variants.{Plain, If, Ifdef, Ifndef, Elseif, Else, Endif, Unknown}
 use Rattle.condition.specs.Conditions.{countOf}
 use Rattle.line.specs.declared.Condition.{Condition}
-use Rattle.line.specs.declared.Condition.the-variants.{Holds, Fails, Wrong}
-use Rattle.ruling.specs.Standings.{live}
+use Rattle.line.specs.declared.Condition.the-variants.{Holds, Fails, Refused}
+use Rattle.ruling.specs.States.{isActive}
 use Rattle.text.specs.Bytes.{pick}
-use Rattle.nesting.specs.Groups.{Group, standingOf}
+use Rattle.nesting.specs.Groups.{Group, stateOf}
 use Rattle.nesting.specs.Decide.{State, Outcome, go, stop, openedBy, opened, opening, decided}
-use Rattle.ruling.specs.declared.Standing.the-variants.{Dead}
-use Rattle.select.specs.Step.{heard, step}
+use Rattle.ruling.specs.declared.GroupState.the-variants.{Skipped}
+use Rattle.select.specs.Step.{readCondition, step}
 use Rattle.select.specs.Select.{start}
 use Rattle.select.proofs.Steps.{decided-step}
 use Rattle.blocks.specs.Blocks.{Blocks, opens, Derives, depth}
@@ -43,17 +43,18 @@ full Unknown o c n k gs h = absurd (false≢true o)
 
 abbrev Fuller : Condition → List Group → Outcome → Type 0
 Fuller c gs (go m s) = Unit
-Fuller c gs (stop r) = (c ≡ Wrong 20 → ⊥) → r ≡ 20 → 16 ≤ length gs
+Fuller c gs (stop r) = (c ≡ Refused 20 → ⊥) → r ≡ 20 → 16 ≤ length gs
 
 opening-fuller : (c : Condition) (n k : ℕ) (gs : List Group) → Fuller c gs (opening c n k gs)
 unfolding opening
-opening-fuller c n k gs = by (leb 16 (length gs)) refl (live (standingOf gs)) c
+opening-fuller c n k gs = by (leb 16 (length gs)) refl (isActive (stateOf gs)) c
   where
-    by : (a : Bool) → leb 16 (length gs) ≡ a → (b : Bool) (c : Condition) → Fuller c gs (pick a (stop 20) (pick b (openedBy c n k gs) (opened 2 Dead n k gs)))
+    by : (a : Bool) → leb 16 (length gs) ≡ a → (b : Bool) (c : Condition) → Fuller c gs
+        (pick a (stop 20) (pick b (openedBy c n k gs) (opened 2 Skipped n k gs)))
     by true e b c = λ w z. leb-true 16 (length gs) e
     by false e true (Holds j) = tt
     by false e true (Fails j) = tt
-    by false e true (Wrong r) = λ w z. absurd (w (ap Wrong z))
+    by false e true (Refused r) = λ w z. absurd (w (ap Refused z))
     by false e false c = tt
 
 decided-fuller : (d : Directive) → opens d ≡ true → (c : Condition) (n k : ℕ) (gs : List Group) → Fuller c gs (decided d c n k gs)
@@ -70,7 +71,7 @@ decided-fuller Unknown o c n k gs = absurd (false≢true o)
 module _ (t : List ℕ) (ls : List (List ℕ)) (s : State) (p : Passes t 1 start ls s) (n : ℕ) (l : List ℕ) (short : length l ≤ 1024)
     (o : opens (directiveOf l) ≡ true) where
   abbrev c : Condition
-  c = heard t (s .groups) l
+  c = readCondition t (s .groups) l
 
   pub deeper : step t n s l ≡ stop 20 → (more : List (List ℕ)) (bs : Blocks) → Derives (ls ++ (l ∷ more)) bs → 16 < depth bs
   deeper e more bs d =

@@ -10,13 +10,13 @@ use Rattle.text.specs.Bytes.{bytes, classOf}
 use Rattle.text.specs.Runs.{span}
 use Rattle.text.specs.Order.{compared}
 use Rattle.text.specs.Names.{macroName, pcdName}
-use Rattle.settings.specs.Table.{recordsIn, zeros, isName, soundName, soundKind, soundRecord, sound, ascending, wellFormed}
-use Rattle.lookup.specs.Setting.{littleEndian, held, underAt, under}
+use Rattle.settings.specs.Table.{recordsIn, zeros, isName, wellFormedName, wellFormedKind, wellFormedRecord, wellFormedRecords, ascending, wellFormed}
+use Rattle.lookup.specs.Setting.{littleEndian, settingAt, settingUnderAt, settingUnder}
 use Rattle.literal.specs.Literal.{digitOf, valueIn, literal, isDecimal, isHexadecimal, hexadecimalOf, numberOf}
 use Rattle.lexeme.specs.Lexeme.{stringOf, stringAt, spelled, isWide, wordOf, macroOf, begins, leading, lexemeBy, lexeme}
 use Rattle.token.specs.Tokens.{readToken, readByte, readFrom, tooDeep, checkDepth, reading}
 use Rattle.arithmetic.specs.Digits.{andDigits, orDigits}
-use Rattle.arithmetic.specs.Operators.{changed, applied, comparison, numbers}
+use Rattle.arithmetic.specs.Operators.{applyUnary, applyBinary, comparison, compareNumbers}
 use Rattle.codes.specs.Levels.{isUnary, levelOf}
 use Rattle.grammar.specs.Grammar.{isPrimary}
 use Rattle.grammar.specs.Parse.{run as runGoal, parse}
@@ -26,11 +26,11 @@ use Rattle.value.specs.Values.{primaryValue, missingPcd, unaryValue, bothValues
 use Rattle.evaluation.specs.Evaluation.{evaluation, ofTokens}
 use Rattle.line.specs.Lines.{onto, endsLine, lines}
 use Rattle.line.specs.Directives.{named, wordStart, textStart, directiveOf}
-use Rattle.condition.specs.Conditions.{idle, ofAnswer, expressionSays, nameAt, namedSays, nameSays, says}
-use Rattle.ruling.specs.Standings.{reads}
-use Rattle.ruling.specs.Rules.{elseifRuling, elseRuling, endRuling}
+use Rattle.condition.specs.Conditions.{idle, ofAnswer, ofExpression, nameAt, ofNamed, ofMacro, evaluate}
+use Rattle.ruling.specs.States.{reads}
+use Rattle.ruling.specs.Rules.{elseifTransition, elseTransition, endTransition}
 use Rattle.nesting.specs.Decide.{opening, decided}
-use Rattle.select.specs.Step.{heard, step}
+use Rattle.select.specs.Step.{readCondition, step}
 use Rattle.select.specs.Select.{refused, run, start, selection}
 use Rattle.select.specs.Examples.{setting, file}
 use Rattle.blocks.specs.Blocks.{Blocks, empty, line, group, elseif, else, Derives}
@@ -69,7 +69,7 @@ whole-derives = record { lines = refl; words = (refl, (refl, tt), (refl, (refl, 
 pub meanings-hold : _≡_ {A = List Meaning}
     (meaning (setting "FOO" 61 2) true whole ∷ meaning (setting "FOO" 61 3) true whole ∷ meaning [] true dead ∷ [])
     (means (4 ∷ 1 ∷ 2 ∷ 0 ∷ 3 ∷ 0 ∷ 5 ∷ 1 ∷ []) 1 ∷ fault DIVISOR-ZERO 2 ∷ means (3 ∷ 2 ∷ 0 ∷ 2 ∷ 0 ∷ 2 ∷ 2 ∷ 4 ∷ 1 ∷ 5 ∷ []) 0 ∷ [])
-unfolding meaning named wordStart textStart directiveOf says expressionSays nameSays namedSays nameAt idle ofAnswer evaluation ofTokens barOutside recordsIn zeros isName soundName soundKind soundRecord sound ascending wellFormed littleEndian held underAt under reading readToken readByte readFrom tooDeep checkDepth classOf span compared macroName pcdName digitOf valueIn literal isDecimal isHexadecimal hexadecimalOf numberOf stringOf stringAt spelled isWide wordOf macroOf begins leading lexemeBy lexeme isPrimary isUnary levelOf runGoal parse unaryKind binaryKind choiceKind andDigits orDigits changed applied comparison numbers primaryValue missingPcd unaryValue bothValues binaryValue choiceValue
+unfolding meaning named wordStart textStart directiveOf evaluate ofExpression ofMacro ofNamed nameAt idle ofAnswer evaluation ofTokens barOutside recordsIn zeros isName wellFormedName wellFormedKind wellFormedRecord wellFormedRecords ascending wellFormed littleEndian settingAt settingUnderAt settingUnder reading readToken readByte readFrom tooDeep checkDepth classOf span compared macroName pcdName digitOf valueIn literal isDecimal isHexadecimal hexadecimalOf numberOf stringOf stringAt spelled isWide wordOf macroOf begins leading lexemeBy lexeme isPrimary isUnary levelOf runGoal parse unaryKind binaryKind choiceKind andDigits orDigits applyUnary applyBinary comparison compareNumbers primaryValue missingPcd unaryValue bothValues binaryValue choiceValue
 meanings-hold = refl
 
 -- which of their lines are read
@@ -78,9 +78,9 @@ pub readings-hold : _≡_ {A = List (List Bool)}
     ((true ∷ false ∷ false ∷ false ∷ true ∷ false ∷ true ∷ false ∷ [])
     ∷ (true ∷ false ∷ false ∷ false ∷ false ∷ false ∷ false ∷ true ∷ false ∷ true ∷ [])
     ∷ [])
-unfolding readsOf named wordStart textStart directiveOf says expressionSays nameSays namedSays nameAt idle ofAnswer evaluation ofTokens barOutside recordsIn zeros isName soundName soundKind soundRecord sound ascending wellFormed littleEndian held underAt under reading readToken readByte readFrom tooDeep checkDepth classOf span compared macroName pcdName digitOf valueIn literal isDecimal isHexadecimal hexadecimalOf numberOf stringOf stringAt spelled isWide wordOf macroOf begins leading lexemeBy lexeme isPrimary isUnary levelOf runGoal parse unaryKind binaryKind choiceKind andDigits orDigits changed applied comparison numbers primaryValue missingPcd unaryValue bothValues binaryValue choiceValue
+unfolding readsOf named wordStart textStart directiveOf evaluate ofExpression ofMacro ofNamed nameAt idle ofAnswer evaluation ofTokens barOutside recordsIn zeros isName wellFormedName wellFormedKind wellFormedRecord wellFormedRecords ascending wellFormed littleEndian settingAt settingUnderAt settingUnder reading readToken readByte readFrom tooDeep checkDepth classOf span compared macroName pcdName digitOf valueIn literal isDecimal isHexadecimal hexadecimalOf numberOf stringOf stringAt spelled isWide wordOf macroOf begins leading lexemeBy lexeme isPrimary isUnary levelOf runGoal parse unaryKind binaryKind choiceKind andDigits orDigits applyUnary applyBinary comparison compareNumbers primaryValue missingPcd unaryValue bothValues binaryValue choiceValue
 readings-hold = refl
 
 pub two-elses-refused : (run [] 1 start (lines twoElses) ≡ refused DIRECTIVE-STRAY 4) × (selection twoElses [] 6 ≡ refused DIRECTIVE-STRAY 4)
-unfolding selection run step heard opening decided elseifRuling elseRuling endRuling reads onto endsLine lines named wordStart textStart directiveOf says nameSays namedSays nameAt idle recordsIn wellFormed ascending sound littleEndian held underAt under classOf span compared macroName pcdName
+unfolding selection run step readCondition opening decided elseifTransition elseTransition endTransition reads onto endsLine lines named wordStart textStart directiveOf evaluate ofMacro ofNamed nameAt idle recordsIn wellFormed ascending wellFormedRecords littleEndian settingAt settingUnderAt settingUnder classOf span compared macroName pcdName
 two-elses-refused = (refl, refl)

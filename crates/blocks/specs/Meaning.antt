@@ -7,9 +7,9 @@ use lib.ListN.{length}
 use Rattle.text.specs.Bytes.{pick}
 use Rattle.line.specs.Directives.{directiveOf, textOf}
 use Rattle.line.specs.declared.Directive.the-variants.{Elseif, Else, Endif}
-use Rattle.condition.specs.Conditions.{says}
+use Rattle.condition.specs.Conditions.{evaluate}
 use Rattle.line.specs.declared.Condition.{Condition}
-use Rattle.line.specs.declared.Condition.the-variants.{Holds, Fails, Wrong}
+use Rattle.line.specs.declared.Condition.the-variants.{Holds, Fails, Refused}
 use Rattle.blocks.specs.Blocks.{Blocks, empty, line, group, Branches, endif, elseif, else}
 
 -- The marks of lines and their count of operators; or the number of the first fault and how many of the lines come before it. Marks: 0
@@ -35,20 +35,20 @@ abbrev pub branch : (read : Bool) → Condition → (earlier : Bool) → (body o
 branch false c earlier body others = single 2 0 then body false then others earlier
 branch true (Holds n) earlier body others = single 4 n then body true then others true
 branch true (Fails n) earlier body others = single 3 n then body false then others earlier
-branch true (Wrong r) earlier body others = fault r 0
+branch true (Refused r) earlier body others = fault r 0
 
 -- a read `!else` takes its branch exactly if no earlier one was taken, unless its text is malformed
 abbrev pub otherwise : (earlier : Bool) → Condition → Condition
 otherwise earlier (Holds n) = pick earlier (Fails n) (Holds n)
 otherwise earlier (Fails n) = pick earlier (Fails n) (Holds n)
-otherwise earlier (Wrong r) = Wrong r
+otherwise earlier (Refused r) = Refused r
 
 -- an `!endif`
 abbrev pub closing : (read : Bool) → Condition → Meaning
 closing false c = single 2 0
 closing true (Holds n) = single 5 n
 closing true (Fails n) = single 5 n
-closing true (Wrong r) = fault r 0
+closing true (Refused r) = fault r 0
 
 -- The reading rule: `!if`, `!ifdef`, `!ifndef`, `!else` and `!endif` are read where the branch around their whole group is taken;
 -- `!elseif` where, besides, no earlier branch of its group was taken. The blocks of a whole file have no branch around them, which counts as
@@ -58,12 +58,12 @@ unfoldable mutual
   meaning t around empty = means [] 0
   meaning t around (line l bs) = single (pick around 1 0) 0 then meaning t around bs
   meaning t around (group l body os bs) =
-      branch around (says t (directiveOf l) (textOf l)) false (λ live. meaning t live body) (λ earlier. branches t around earlier os)
+      branch around (evaluate t (directiveOf l) (textOf l)) false (λ live. meaning t live body) (λ earlier. branches t around earlier os)
       then meaning t around bs
 
   pub branches : (t : List ℕ) → (around earlier : Bool) → Branches → Meaning
-  branches t around earlier (endif l) = closing around (says t Endif (textOf l))
+  branches t around earlier (endif l) = closing around (evaluate t Endif (textOf l))
   branches t around earlier (elseif l body os) =
-      branch (around && not earlier) (says t Elseif (textOf l)) earlier (λ live. meaning t live body) (λ earlier′. branches t around earlier′ os)
+      branch (around && not earlier) (evaluate t Elseif (textOf l)) earlier (λ live. meaning t live body) (λ earlier′. branches t around earlier′ os)
   branches t around earlier (else l body e) =
-      branch around (otherwise earlier (says t Else (textOf l))) earlier (λ live. meaning t live body) (λ _. closing around (says t Endif (textOf e)))
+      branch around (otherwise earlier (evaluate t Else (textOf l))) earlier (λ live. meaning t live body) (λ _. closing around (evaluate t Endif (textOf e)))

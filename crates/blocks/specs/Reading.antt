@@ -5,16 +5,16 @@ use mathlib.Core.Bool.{Bool, true, false, not, _&&_, _||_}
 use mathlib.Core.List.{List, [], _∷_, _++_}
 use Rattle.line.specs.Directives.{directiveOf, textOf}
 use Rattle.line.specs.declared.Directive.the-variants.{Elseif}
-use Rattle.condition.specs.Conditions.{says}
+use Rattle.condition.specs.Conditions.{evaluate}
 use Rattle.line.specs.declared.Condition.{Condition}
-use Rattle.line.specs.declared.Condition.the-variants.{Holds, Fails, Wrong}
+use Rattle.line.specs.declared.Condition.the-variants.{Holds, Fails, Refused}
 use Rattle.blocks.specs.Blocks.{Blocks, empty, line, group, Branches, endif, elseif, else}
 
 -- whether a condition lets its branch be taken
 abbrev pub holds : Condition → Bool
 holds (Holds n) = true
 holds (Fails n) = false
-holds (Wrong r) = false
+holds (Refused r) = false
 
 -- For each line, whether it is a directive that is read. `around`: the branch around the blocks is taken. `earlier`: an earlier branch of the
 -- group was taken. A plain line is never read.
@@ -23,13 +23,13 @@ unfoldable mutual
   readsOf t around empty = []
   readsOf t around (line l bs) = false ∷ readsOf t around bs
   readsOf t around (group l body os bs) =
-      let taken = around && holds (says t (directiveOf l) (textOf l)) in
+      let taken = around && holds (evaluate t (directiveOf l) (textOf l)) in
       around ∷ (readsOf t taken body ++ (readsIn t around taken os ++ readsOf t around bs))
 
   pub readsIn : (t : List ℕ) → (around earlier : Bool) → Branches → List Bool
   readsIn t around earlier (endif l) = around ∷ []
   readsIn t around earlier (elseif l body os) =
       let read = around && not earlier in
-      let taken = read && holds (says t Elseif (textOf l)) in
+      let taken = read && holds (evaluate t Elseif (textOf l)) in
       read ∷ (readsOf t taken body ++ readsIn t around (earlier || taken) os)
   readsIn t around earlier (else l body e) = around ∷ (readsOf t (around && not earlier) body ++ (around ∷ []))

@@ -16,7 +16,7 @@ use Rattle.evaluation.specs.Evaluation.{Evaluation, value, refused, evaluation}
 use Rattle.evaluation.proofs.FromTree.{counted}
 use Rattle.line.specs.declared.Directive.{Directive}
 use Rattle.line.specs.declared.Directive.the-variants.{Plain, If, Ifdef, Ifndef, Elseif, Else, Endif, Unknown}
-use Rattle.condition.specs.Conditions.{countOf, spaced, idle, ofAnswer, expressionSays, nameAt, tested, alone, absent, namedSays, nameSays, says}
+use Rattle.condition.specs.Conditions.{countOf, spaced, idle, ofAnswer, ofExpression, nameAt, tested, alone, absent, ofNamed, ofMacro, evaluate}
 use Rattle.condition.specs.declared.macros.Named.{Named}
 use Rattle.line.specs.declared.Condition.{Condition}
 
@@ -38,30 +38,30 @@ module _ (t s : List ℕ) where
   answered : (v : Value) (n : ℕ) → evaluation s t ≡ value v n → n < 200
   answered v n e = omega (arith, counted s t v n e, most-tokens s)
 
-  expression-small : Small (expressionSays t s)
-  unfolding expressionSays
+  expression-small : Small (ofExpression t s)
+  unfolding ofExpression
   expression-small = pick-case Small (spaced s) (λ _. of-answer (evaluation s t) answered) (λ _. omega arith)
 
 tested-small : (b : Bool) → Small (tested b)
 tested-small b = pick-case Small b (λ _. omega arith) (λ _. omega arith)
 
-named-small : (t : List ℕ) (wanted : Bool) (s : List ℕ) (n : Named) → Small (namedSays t wanted s n)
-unfolding namedSays
+named-small : (t : List ℕ) (wanted : Bool) (s : List ℕ) (n : Named) → Small (ofNamed t wanted s n)
+unfolding ofNamed
 named-small t wanted s n =
     pick-case Small (alone s n) (λ _. tested-small (pick wanted (not (absent t s n)) (absent t s n))) (λ _. omega arith)
 
-name-small : (t : List ℕ) (wanted : Bool) (s : List ℕ) → Small (nameSays t wanted s)
-unfolding nameSays
+name-small : (t : List ℕ) (wanted : Bool) (s : List ℕ) → Small (ofMacro t wanted s)
+unfolding ofMacro
 name-small t wanted s =
     let m : List ℕ = drop (span Blanks s) s in
     pick-case Small (spaced s) (λ _. named-small t wanted m (nameAt m)) (λ _. omega arith)
 
-nothing-small : (t s : List ℕ) → Small (says t Else s)
-unfolding says
+nothing-small : (t s : List ℕ) → Small (evaluate t Else s)
+unfolding evaluate
 nothing-small t s = pick-case Small (idle s) (λ _. omega arith) (λ _. omega arith)
 
-pub count-small : (t : List ℕ) (d : Directive) (s : List ℕ) → countOf (says t d s) < 200
-unfolding says
+pub count-small : (t : List ℕ) (d : Directive) (s : List ℕ) → countOf (evaluate t d s) < 200
+unfolding evaluate
 count-small t If s = expression-small t s
 count-small t Elseif s = expression-small t s
 count-small t Ifdef s = name-small t true s

@@ -10,20 +10,20 @@ use Rattle.text.specs.Bytes.{byte, pick, blank}
 use Rattle.text.specs.Runs.{span}
 use Rattle.text.specs.Names.{macroName}
 use Rattle.text.specs.declared.runs.Set.the-variants.{Blanks}
-use Rattle.lookup.specs.Setting.{under}
+use Rattle.lookup.specs.Setting.{settingUnder}
 use Rattle.value.specs.Values.{number, string, wide, fault, isMissing}
 use Rattle.evaluation.specs.Evaluation.{Evaluation, value, refused, evaluation}
 use Rattle.line.specs.declared.Directive.{Directive}
 use Rattle.line.specs.declared.Directive.the-variants.{Plain, If, Ifdef, Ifndef, Elseif, Else, Endif, Unknown}
 use Rattle.line.specs.declared.Condition.{Condition}
-use Rattle.line.specs.declared.Condition.the-variants.{Holds, Fails, Wrong}
+use Rattle.line.specs.declared.Condition.the-variants.{Holds, Fails, Refused}
 use Rattle.condition.specs.declared.macros.Named.{Named}
 
 -- how many operators were applied, none with a refusal
 abbrev pub countOf : Condition → ℕ
 countOf (Holds n) = n
 countOf (Fails n) = n
-countOf (Wrong r) = 0
+countOf (Refused r) = 0
 
 -- a blank stands directly after the word
 abbrev pub spaced : List ℕ → Bool
@@ -35,19 +35,19 @@ idle s = leb (length s) (span Blanks s) || eqb (getD s (span Blanks s) 0) (byte 
 
 -- an expression's number, with its count of operators, as a condition: 1 or 0
 abbrev pub ofNumber : (x count : ℕ) → Condition
-ofNumber x n = pick (eqb x 1) (Holds n) (pick (eqb x 0) (Fails n) (Wrong CONDITION-VALUE))
+ofNumber x n = pick (eqb x 1) (Holds n) (pick (eqb x 0) (Fails n) (Refused CONDITION-VALUE))
 
 -- an expression's answer as a condition (an answer never has a fault for its value)
 unfoldable pub ofAnswer : Evaluation → Condition
 ofAnswer (value (number x) n) = ofNumber x n
-ofAnswer (value (string p s) n) = Wrong CONDITION-VALUE
-ofAnswer (value (wide p s) n) = Wrong CONDITION-VALUE
-ofAnswer (value (fault r) n) = Wrong CONDITION-VALUE
-ofAnswer (refused r) = Wrong (r .number)
+ofAnswer (value (string p s) n) = Refused CONDITION-VALUE
+ofAnswer (value (wide p s) n) = Refused CONDITION-VALUE
+ofAnswer (value (fault r) n) = Refused CONDITION-VALUE
+ofAnswer (refused r) = Refused (r .number)
 
 -- `!if` and `!elseif`: the argument is all of the text
-unfoldable pub expressionSays : (t : List ℕ) → List ℕ → Condition
-expressionSays t s = pick (spaced s) (ofAnswer (evaluation s t)) (Wrong TEXT-MALFORMED)
+unfoldable pub ofExpression : (t : List ℕ) → List ℕ → Condition
+ofExpression t s = pick (spaced s) (ofAnswer (evaluation s t)) (Refused TEXT-MALFORMED)
 
 -- a macro's name at the front of a text: where it starts, how long it is, 0 where none stands there, and where the text goes on
 abbrev pub nameOver : (start len after : ℕ) → Named
@@ -81,29 +81,29 @@ alone s n = ltb 0 (n .len) && idle (drop (n .after .0) s)
 
 -- the table has nothing under the name
 abbrev pub absent : (t : List ℕ) → List ℕ → Named → Bool
-absent t s n = isMissing (under t (take (n .len) (drop (n .start .0) s)))
+absent t s n = isMissing (settingUnder t (take (n .len) (drop (n .start .0) s)))
 
 -- a text s that has this name at its front
-unfoldable pub namedSays : (t : List ℕ) → (wanted : Bool) → List ℕ → Named → Condition
-namedSays t wanted s n = pick (alone s n) (decided wanted (absent t s n)) (Wrong TEXT-MALFORMED)
+unfoldable pub ofNamed : (t : List ℕ) → (wanted : Bool) → List ℕ → Named → Condition
+ofNamed t wanted s n = pick (alone s n) (decided wanted (absent t s n)) (Refused TEXT-MALFORMED)
 
 -- `!ifdef` where `wanted` is true, `!ifndef` where it is false: one macro's name, with blanks before it, blanks and a comment after it
-unfoldable pub nameSays : (t : List ℕ) → (wanted : Bool) → List ℕ → Condition
-nameSays t wanted s =
+unfoldable pub ofMacro : (t : List ℕ) → (wanted : Bool) → List ℕ → Condition
+ofMacro t wanted s =
     let m : List ℕ = drop (span Blanks s) s in
-    pick (spaced s) (namedSays t wanted m (nameAt m)) (Wrong TEXT-MALFORMED)
+    pick (spaced s) (ofNamed t wanted m (nameAt m)) (Refused TEXT-MALFORMED)
 
 -- `!else` and `!endif`
-abbrev pub nothingSays : List ℕ → Condition
-nothingSays s = pick (idle s) (Holds 0) (Wrong TEXT-MALFORMED)
+abbrev pub ofNothing : List ℕ → Condition
+ofNothing s = pick (idle s) (Holds 0) (Refused TEXT-MALFORMED)
 
 -- the text s after a directive's word, over a table t; a line that is plain, or whose word is unknown, is never asked
-unfoldable pub says : (t : List ℕ) → Directive → List ℕ → Condition
-says t If s = expressionSays t s
-says t Elseif s = expressionSays t s
-says t Ifdef s = nameSays t true s
-says t Ifndef s = nameSays t false s
-says t Else s = nothingSays s
-says t Endif s = nothingSays s
-says t Plain s = Fails 0
-says t Unknown s = Fails 0
+unfoldable pub evaluate : (t : List ℕ) → Directive → List ℕ → Condition
+evaluate t If s = ofExpression t s
+evaluate t Elseif s = ofExpression t s
+evaluate t Ifdef s = ofMacro t true s
+evaluate t Ifndef s = ofMacro t false s
+evaluate t Else s = ofNothing s
+evaluate t Endif s = ofNothing s
+evaluate t Plain s = Fails 0
+evaluate t Unknown s = Fails 0

@@ -10,13 +10,13 @@ use Rattle.text.specs.Bytes.{bytes, classOf}
 use Rattle.text.specs.Runs.{span}
 use Rattle.text.specs.Order.{compared}
 use Rattle.text.specs.Names.{macroName, pcdName}
-use Rattle.settings.specs.Table.{recordsIn, zeros, isName, soundName, soundKind, soundRecord, sound, ascending, wellFormed}
-use Rattle.lookup.specs.Setting.{littleEndian, held, underAt, under}
+use Rattle.settings.specs.Table.{recordsIn, zeros, isName, wellFormedName, wellFormedKind, wellFormedRecord, wellFormedRecords, ascending, wellFormed}
+use Rattle.lookup.specs.Setting.{littleEndian, settingAt, settingUnderAt, settingUnder}
 use Rattle.literal.specs.Literal.{digitOf, valueIn, literal, isDecimal, isHexadecimal, hexadecimalOf, numberOf}
 use Rattle.lexeme.specs.Lexeme.{stringOf, stringAt, spelled, isWide, wordOf, macroOf, begins, leading, lexemeBy, lexeme}
 use Rattle.token.specs.Tokens.{readToken, readByte, readFrom, tooDeep, checkDepth, reading}
 use Rattle.arithmetic.specs.Digits.{andDigits, orDigits}
-use Rattle.arithmetic.specs.Operators.{changed, applied, comparison, numbers}
+use Rattle.arithmetic.specs.Operators.{applyUnary, applyBinary, comparison, compareNumbers}
 use Rattle.codes.specs.Levels.{isUnary, levelOf}
 use Rattle.grammar.specs.Grammar.{isPrimary}
 use Rattle.grammar.specs.Parse.{run, parse}
@@ -26,9 +26,9 @@ use Rattle.value.specs.Values.{primaryValue, missingPcd, unaryValue, bothValues
 use Rattle.evaluation.specs.Evaluation.{evaluation, ofTokens}
 use Rattle.line.specs.declared.Directive.{Directive}
 use Rattle.line.specs.declared.Directive.the-variants.{If, Ifdef, Ifndef, Elseif, Else, Endif}
-use Rattle.condition.specs.Conditions.{idle, ofAnswer, expressionSays, nameAt, namedSays, nameSays, says}
+use Rattle.condition.specs.Conditions.{idle, ofAnswer, ofExpression, nameAt, ofNamed, ofMacro, evaluate}
 use Rattle.line.specs.declared.Condition.{Condition}
-use Rattle.line.specs.declared.Condition.the-variants.{Holds, Fails, Wrong}
+use Rattle.line.specs.declared.Condition.the-variants.{Holds, Fails, Refused}
 
 -- a directive, the text after its word, and what it says
 pub record Example : Type 0 where
@@ -44,17 +44,17 @@ abbrev conditions : List Example
 conditions =
     reads If " 1" (Holds 0)
     ∷ reads If " 0" (Fails 0)
-    ∷ reads If " 2" (Wrong CONDITION-VALUE)
-    ∷ reads If " 'a'" (Wrong CONDITION-VALUE)
+    ∷ reads If " 2" (Refused CONDITION-VALUE)
+    ∷ reads If " 'a'" (Refused CONDITION-VALUE)
     ∷ reads If " 1 + 1 == 2" (Holds 2)
-    ∷ reads If " # c" (Wrong NO-DERIVATION)
-    ∷ reads If "" (Wrong TEXT-MALFORMED)
-    ∷ reads If "(1)" (Wrong TEXT-MALFORMED)
+    ∷ reads If " # c" (Refused NO-DERIVATION)
+    ∷ reads If "" (Refused TEXT-MALFORMED)
+    ∷ reads If "(1)" (Refused TEXT-MALFORMED)
     ∷ reads Elseif "\t1" (Holds 0)
     ∷ []
 
-conditions-hold : map (λ x. says [] (x .directive) (bytes (x .text))) conditions ≡ map (λ x. x .condition) conditions
-unfolding says expressionSays ofAnswer evaluation ofTokens barOutside recordsIn sound ascending wellFormed reading readToken readByte readFrom tooDeep checkDepth classOf span compared macroName pcdName digitOf valueIn literal isDecimal isHexadecimal hexadecimalOf numberOf stringOf stringAt spelled isWide wordOf macroOf begins leading lexemeBy lexeme isPrimary isUnary levelOf run parse unaryKind binaryKind choiceKind andDigits orDigits changed applied comparison numbers primaryValue missingPcd unaryValue bothValues binaryValue choiceValue
+conditions-hold : map (λ x. evaluate [] (x .directive) (bytes (x .text))) conditions ≡ map (λ x. x .condition) conditions
+unfolding evaluate ofExpression ofAnswer evaluation ofTokens barOutside recordsIn wellFormedRecords ascending wellFormed reading readToken readByte readFrom tooDeep checkDepth classOf span compared macroName pcdName digitOf valueIn literal isDecimal isHexadecimal hexadecimalOf numberOf stringOf stringAt spelled isWide wordOf macroOf begins leading lexemeBy lexeme isPrimary isUnary levelOf run parse unaryKind binaryKind choiceKind andDigits orDigits applyUnary applyBinary comparison compareNumbers primaryValue missingPcd unaryValue bothValues binaryValue choiceValue
 conditions-hold = refl
 
 -- names that the table does not have, one too long for any table, texts that are no name, and directives that take none
@@ -65,31 +65,31 @@ texts =
     ∷ reads Ifdef " A#c" (Fails 0)
     ∷ reads Ifdef " X0123456789ABCDEF0123456789ABCDEF0123456789ABCDEF0123456789ABCDEF" (Fails 0)
     ∷ reads Ifndef " A" (Holds 0)
-    ∷ reads Ifdef " a" (Wrong TEXT-MALFORMED)
-    ∷ reads Ifdef " $(A" (Wrong TEXT-MALFORMED)
-    ∷ reads Ifdef " $A" (Wrong TEXT-MALFORMED)
-    ∷ reads Ifdef " $()" (Wrong TEXT-MALFORMED)
-    ∷ reads Ifdef " A B" (Wrong TEXT-MALFORMED)
-    ∷ reads Ifdef " # A" (Wrong TEXT-MALFORMED)
-    ∷ reads Ifdef "A" (Wrong TEXT-MALFORMED)
+    ∷ reads Ifdef " a" (Refused TEXT-MALFORMED)
+    ∷ reads Ifdef " $(A" (Refused TEXT-MALFORMED)
+    ∷ reads Ifdef " $A" (Refused TEXT-MALFORMED)
+    ∷ reads Ifdef " $()" (Refused TEXT-MALFORMED)
+    ∷ reads Ifdef " A B" (Refused TEXT-MALFORMED)
+    ∷ reads Ifdef " # A" (Refused TEXT-MALFORMED)
+    ∷ reads Ifdef "A" (Refused TEXT-MALFORMED)
     ∷ reads Else "" (Holds 0)
     ∷ reads Else " # c" (Holds 0)
     ∷ reads Else "#c" (Holds 0)
-    ∷ reads Else "x" (Wrong TEXT-MALFORMED)
-    ∷ reads Endif " 1" (Wrong TEXT-MALFORMED)
+    ∷ reads Else "x" (Refused TEXT-MALFORMED)
+    ∷ reads Endif " 1" (Refused TEXT-MALFORMED)
     ∷ []
 
-texts-hold : map (λ x. says [] (x .directive) (bytes (x .text))) texts ≡ map (λ x. x .condition) texts
-unfolding says nameSays namedSays nameAt idle span macroName recordsIn underAt under
+texts-hold : map (λ x. evaluate [] (x .directive) (bytes (x .text))) texts ≡ map (λ x. x .condition) texts
+unfolding evaluate ofMacro ofNamed nameAt idle span macroName recordsIn settingUnderAt settingUnder
 texts-hold = refl
 
 -- A = 0: its name and 63 zeros, the kind, a length of 8, and zeros
 abbrev table : List ℕ
 table = bytes "A" ++ (replicate 64 0 ++ (8 ∷ replicate 62 0))
 
-sound-table : wellFormed table ≡ true
-unfolding span compared macroName pcdName recordsIn zeros isName soundName soundKind soundRecord sound ascending wellFormed
-sound-table = refl
+well-formed-table : wellFormed table ≡ true
+unfolding span compared macroName pcdName recordsIn zeros isName wellFormedName wellFormedKind wellFormedRecord wellFormedRecords ascending wellFormed
+well-formed-table = refl
 
 -- whether a name is there, whatever stands under it
 abbrev names : List Example
@@ -99,6 +99,6 @@ names =
     ∷ reads Ifdef " AA" (Fails 0)
     ∷ []
 
-names-hold : map (λ x. says table (x .directive) (bytes (x .text))) names ≡ map (λ x. x .condition) names
-unfolding says nameSays namedSays nameAt idle span compared macroName recordsIn littleEndian held underAt under
+names-hold : map (λ x. evaluate table (x .directive) (bytes (x .text))) names ≡ map (λ x. x .condition) names
+unfolding evaluate ofMacro ofNamed nameAt idle span compared macroName recordsIn littleEndian settingAt settingUnderAt settingUnder
 names-hold = refl

@@ -6,7 +6,7 @@ use text::runs::Set;
 use units::Offset;
 ghost use mathlib.Core.Path.{_≡_};
 ghost use lib.ListN.{drop};
-ghost use Rattle.condition.specs.Conditions.{spaced, idle, nothingSays};
+ghost use Rattle.condition.specs.Conditions.{spaced, idle, ofNothing};
 
 // Whether a blank stands directly after the word.
 pub fn is_spaced(text: &[u8]) -> bool
@@ -27,12 +27,12 @@ pub fn is_idle(text: &[u8], from: Offset) -> bool
 }
 
 // `!else` and `!endif`.
-pub fn nothing_says(text: &[u8]) -> Condition
-    ensures { λ r. ⌜ r ≡ nothingSays (now (text .entry)) ⌝ }
+pub fn of_nothing(text: &[u8]) -> Condition
+    ensures { λ r. ⌜ r ≡ ofNothing (now (text .entry)) ⌝ }
 {
     if is_idle(text, Offset(0)) {
         Condition::Holds(0)
     } else {
-        Condition::Wrong(units::TEXT_MALFORMED)
+        Condition::Refused(units::TEXT_MALFORMED)
     }
 }

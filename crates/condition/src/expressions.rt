@@ -1,7 +1,7 @@
 // `!if` and `!elseif`: an expression's answer as a condition.
 use crate::blanks;
 use evaluation::Answer;
-use evaluation::Value;
+use evaluation::AnswerValue;
 use evaluation::outcome;
 use line::Condition;
 ghost use mathlib.Core.Path.{_≡_};
@@ -9,8 +9,8 @@ ghost use mathlib.Core.Bool.{true};
 ghost use mathlib.Core.List.{List};
 ghost use Prim.Native.Nat.{ℕ};
 ghost use Rattle.settings.specs.Table.{wellFormed};
-ghost use Rattle.evaluation.specs.Evaluation.{stated};
-ghost use Rattle.condition.specs.Conditions.{ofNumber, ofAnswer, expressionSays};
+ghost use Rattle.evaluation.specs.Evaluation.{denoteAnswer};
+ghost use Rattle.condition.specs.Conditions.{ofNumber, ofAnswer, ofExpression};
 
 fn of_number(x: u64, count: usize) -> Condition
     ensures { λ r. ⌜ r ≡ ofNumber x count ⌝ }
@@ -21,29 +21,29 @@ fn of_number(x: u64, count: usize) -> Condition
     if x == 0 {
         return Condition::Fails(count);
     }
-    Condition::Wrong(units::CONDITION_VALUE)
+    Condition::Refused(units::CONDITION_VALUE)
 }
 
 fn of_answer(a: Answer) -> Condition
-    ensures { λ r. ⌜ ((e t : List ℕ) → r ≡ ofAnswer (stated e t a)) ⌝ }
+    ensures { λ r. ⌜ ((e t : List ℕ) → r ≡ ofAnswer (denoteAnswer e t a)) ⌝ }
 {
     match a {
-        Answer::Refused(r) => Condition::Wrong(r.number),
+        Answer::Refused(r) => Condition::Refused(r.number),
         Answer::Value(v, count) => match v {
-            Value::Number(x) => of_number(x, count),
-            Value::String(_) => Condition::Wrong(units::CONDITION_VALUE),
-            Value::Wide(_) => Condition::Wrong(units::CONDITION_VALUE),
+            AnswerValue::Number(x) => of_number(x, count),
+            AnswerValue::String(_) => Condition::Refused(units::CONDITION_VALUE),
+            AnswerValue::Wide(_) => Condition::Refused(units::CONDITION_VALUE),
         },
     }
 }
 
 // The argument is all of the text.
-pub fn expression_says<'a>(table: &'a [u8], text: &'a [u8]) -> Condition
+pub fn of_expression<'a>(table: &'a [u8], text: &'a [u8]) -> Condition
     requires { ⌜ wellFormed (now table) ≡ true ⌝ }
-    ensures { λ r. ⌜ r ≡ expressionSays (now (table .entry)) (now (text .entry)) ⌝ }
+    ensures { λ r. ⌜ r ≡ ofExpression (now (table .entry)) (now (text .entry)) ⌝ }
 {
     if !blanks::is_spaced(text) {
-        return Condition::Wrong(units::TEXT_MALFORMED);
+        return Condition::Refused(units::TEXT_MALFORMED);
     }
-    of_answer(outcome::in_sound_table(text, table))
+    of_answer(outcome::evaluate_in(text, table))
 }

@@ -11,7 +11,7 @@ use value::values;
 ghost use mathlib.Core.Path.{_≡_};
 ghost use mathlib.Core.Bool.{true};
 ghost use Rattle.settings.specs.Table.{wellFormed};
-ghost use Rattle.condition.specs.Conditions.{nameOver, plainName, usedName, nameAt, tested, decided, namedSays, nameSays};
+ghost use Rattle.condition.specs.Conditions.{nameOver, plainName, usedName, nameAt, tested, decided, ofNamed, ofMacro};
 
 // A macro's name at the front of a text: where it starts, how long it is, 0 where none stands there, and where the text goes on.
 pub struct Named {
@@ -79,16 +79,16 @@ fn decide(wanted: bool, missing: bool) -> Condition
 }
 
 // A text that has this name at its front.
-fn named_says(table: &[u8], wanted: bool, text: &[u8], n: Named) -> Condition
+fn of_named(table: &[u8], wanted: bool, text: &[u8], n: Named) -> Condition
     requires { ⌜ wellFormed (now table) ≡ true ⌝ }
-    ensures { λ r. ⌜ r ≡ namedSays (now (table .entry)) wanted (now (text .entry)) n ⌝ }
+    ensures { λ r. ⌜ r ≡ ofNamed (now (table .entry)) wanted (now (text .entry)) n ⌝ }
 {
     if n.len == 0 {
-        return Condition::Wrong(units::TEXT_MALFORMED);
+        return Condition::Refused(units::TEXT_MALFORMED);
     }
     let after = n.after;
     if !blanks::is_idle(text, after) {
-        return Condition::Wrong(units::TEXT_MALFORMED);
+        return Condition::Refused(units::TEXT_MALFORMED);
     }
     let start = n.start;
     let name = parts::part(text, start, n.len);
@@ -96,15 +96,15 @@ fn named_says(table: &[u8], wanted: bool, text: &[u8], n: Named) -> Condition
 }
 
 // `!ifdef` where `wanted` is true, `!ifndef` where it is false.
-pub fn name_says(table: &[u8], wanted: bool, text: &[u8]) -> Condition
+pub fn of_macro(table: &[u8], wanted: bool, text: &[u8]) -> Condition
     requires { ⌜ wellFormed (now table) ≡ true ⌝ }
-    ensures { λ r. ⌜ r ≡ nameSays (now (table .entry)) wanted (now (text .entry)) ⌝ }
+    ensures { λ r. ⌜ r ≡ ofMacro (now (table .entry)) wanted (now (text .entry)) ⌝ }
 {
     if !blanks::is_spaced(text) {
-        return Condition::Wrong(units::TEXT_MALFORMED);
+        return Condition::Refused(units::TEXT_MALFORMED);
     }
     let first = runs::run_end(text, Offset(0), Set::Blanks);
     let start = first.0;
     let rest = &text[start..];
-    named_says(table, wanted, rest, name_at(rest))
+    of_named(table, wanted, rest, name_at(rest))
 }

@@ -1,7 +1,7 @@
 // The bytes of one PCD data field: a number, a string or a wide string at the front of a lent buffer, or a refusal.
-pub mod types;
 mod sizes;
 mod store;
+pub mod types;
 
 use units::Refusal;
 ghost use mathlib.Core.Path.{_≡_};

@@ -17,7 +17,7 @@ use Rattle.token.proofs.Reading.{most-tokens}
 use Rattle.grammar.specs.Parse.{parse}
 use Rattle.expression.specs.Meaning.{codeOf, meaning}
 use Rattle.expression.specs.Parsing.{tokenAt, Holding}
-use Rattle.evaluation.specs.Evaluation.{END-TOKEN, tokenIn, concluded, ofTokens, evaluation}
+use Rattle.evaluation.specs.Evaluation.{END-TOKEN, tokenIn, answerTokens, ofTokens, evaluation}
 
 -- one entry of each token, stored in a list that has room
 module _ (f : Token → ℕ) (ts : List Token) (l l′ : List ℕ) (fits : length ts ≤ length l) (so : l′ ≡ stored (map f ts) l) where
@@ -81,7 +81,7 @@ module _ (e t : List ℕ) {cs₀ ss₀ ls₀ vs₀ cs ss ls vs : List ℕ} (room
 
     -- where the table is well formed and reading met no refusal, the answer to the arrays is the answer to the expression
     pub answers : wellFormed t ≡ true → (n : ℕ) → n ≡ length (reading e .tokens) → reading e .ending ≡ Complete
-        → concluded (take n cs) (parse codeOf (meaning e t) (tokenAt cs ss ls vs n) n) ≡ evaluation e t
+        → answerTokens (take n cs) (parse codeOf (meaning e t) (tokenAt cs ss ls vs n) n) ≡ evaluation e t
     unfolding evaluation ofTokens
     answers sound n c y =
         let codes = codes-read (reading e) cs₀ ss₀ ls₀ vs₀ cs ss ls vs so (room .codes-hold) (room .starts-hold) (room .lens-hold) (room .values-hold) in

@@ -23,12 +23,13 @@ use Rattle.value.specs.Values.{Value, number, string, wide, fault}
 use Rattle.value.specs.Attributes.{Attributes}
 use Rattle.expression.specs.Meaning.{codeOf, meaning}
 use Rattle.expression.proofs.Ready.{counts}
-use Rattle.evaluation.specs.Evaluation.{Evaluation, value, refused, refusedWith, finished, clashes, judged, END-TOKEN, tokenIn, concluded, ofTokens, ended, evaluation}
+use Rattle.evaluation.specs.Evaluation.{Evaluation, value, refused, refusedWith, answerValue, clashes, checkThenAnswer, END-TOKEN}
+use Rattle.evaluation.specs.Evaluation.{tokenIn, answerTokens, ofTokens, ended, evaluation}
 
 -- what a value tells of the attributes that gave it: their kinds do not clash, and it is theirs and no fault
 pub record Told (v : Value) (n : ℕ) (a : Attributes) : Type 0 where
   pub suited : clashes (a .kind) ≡ false
-  pub given : finished v n ≡ value v n
+  pub given : answerValue v n ≡ value v n
   pub count : n ≡ a .count
   pub value : v ≡ a .value
 
@@ -39,13 +40,13 @@ module _ (v : Value) (n : ℕ) where
   pub never : (r : Refusal) → refused r ≡ value v n → ⊥
   never r e = let z : _≡_ {A = ℕ} 0 1 = cc in omega arith
 
-  finished-tells : (a : Attributes) → clashes (a .kind) ≡ false → (w : Value) → a .value ≡ w → Tells a (finished w (a .count))
+  finished-tells : (a : Attributes) → clashes (a .kind) ≡ false → (w : Value) → a .value ≡ w → Tells a (answerValue w (a .count))
   finished-tells a h (number x) g e = let w : v ≡ number x = cc in record { suited = h; count = cc; value = cc; given = rw w }
   finished-tells a h (string p s) g e = let w : v ≡ string p s = cc in record { suited = h; count = cc; value = cc; given = rw w }
   finished-tells a h (wide p s) g e = let w : v ≡ wide p s = cc in record { suited = h; count = cc; value = cc; given = rw w }
   finished-tells a h (fault r) g e = absurd (never (refusal r) e)
 
-  pub judged-tells : (bar : Bool) (a : Attributes) → Tells a (judged bar a)
+  pub judged-tells : (bar : Bool) (a : Attributes) → Tells a (checkThenAnswer bar a)
   judged-tells bar a =
       pick-case (Tells a) bar (λ _ e. absurd (never _ e))
       (λ _. pick-case (Tells a) (a .missing) (λ _ e. absurd (never _ e))
@@ -62,12 +63,12 @@ module _ (e t : List ℕ) where
 
   -- by what the parser found
   by-outcome : (o : Outcome Attributes) → parse codeOf (meaning e t) (tokenIn (reading e .tokens)) (length (reading e .tokens)) ≡ o
-      → (v : Value) (n : ℕ) → concluded (codesOf (reading e .tokens)) o ≡ value v n → FromTree v n
+      → (v : Value) (n : ℕ) → answerTokens (codesOf (reading e .tokens)) o ≡ value v n → FromTree v n
   by-outcome (underived i) p v n h = absurd (never v n _ h)
   by-outcome (accepted a) p v n h =
       let r = evaluates tokens-read (meaning e t) .accepted-exactly a .0 p in
       let s : Tree Token = r .0 in
-      let k : judged (barOutside 0 (codesOf (reading e .tokens))) (fold (meaning e t) s) ≡ value v n = rw (← r .2) h in
+      let k : checkThenAnswer (barOutside 0 (codesOf (reading e .tokens))) (fold (meaning e t) s) ≡ value v n = rw (← r .2) h in
       (s, r .1, judged-tells v n (barOutside 0 (codesOf (reading e .tokens))) (fold (meaning e t) s) k)
 
   pub from-tree : (v : Value) (n : ℕ) → evaluation e t ≡ value v n → FromTree v n

@@ -25,8 +25,8 @@ use Rattle.value.specs.declared.Kind.{Kind}
 use Rattle.value.specs.declared.Kind.the-variants.{Clash}
 use Rattle.expression.specs.Meaning.{codeOf, meaning}
 use Rattle.grammar.specs.Bars.{barOutside}
-use Rattle.evaluation.specs.declared.Value.{Value as Shown}
-use Rattle.evaluation.specs.declared.Value.the-variants.{Number, String, Wide}
+use Rattle.evaluation.specs.declared.AnswerValue.{AnswerValue}
+use Rattle.evaluation.specs.declared.AnswerValue.the-variants.{Number, String, Wide}
 use Rattle.evaluation.specs.declared.Answer.{Answer}
 use Rattle.evaluation.specs.declared.Answer.the-variants.{Value as Given, Refused as Refusing}
 
@@ -40,22 +40,22 @@ abbrev pub refusedWith : ℕ → Evaluation
 refusedWith n = refused (refusal n)
 
 -- the value, or the refusal that evaluation met first: where kinds suit that is 11 or 12
-abbrev pub finished : Value → (count : ℕ) → Evaluation
-finished (number x) n = value (number x) n
-finished (string p s) n = value (string p s) n
-finished (wide p s) n = value (wide p s) n
-finished (fault r) n = refusedWith r
+abbrev pub answerValue : Value → (count : ℕ) → Evaluation
+answerValue (number x) n = value (number x) n
+answerValue (string p s) n = value (string p s) n
+answerValue (wide p s) n = value (wide p s) n
+answerValue (fault r) n = refusedWith r
 
 abbrev pub clashes : Kind → Bool
 clashes k = eqb (kindNumber k) (kindNumber Clash)
 
 -- what is known of an expression that derives, and whether a bar stands outside parentheses: 8, 9, 10, else what evaluation gave
-abbrev pub judged : (bar : Bool) → Attributes → Evaluation
-judged bar a =
+abbrev pub checkThenAnswer : (bar : Bool) → Attributes → Evaluation
+checkThenAnswer bar a =
     pick bar (refusedWith BAR-OUTSIDE)
     (pick (a .missing) (refusedWith PCD-MISSING)
     (pick (clashes (a .kind)) (refusedWith KINDS-UNSUITED)
-    (finished (a .value) (a .count))))
+    (answerValue (a .value) (a .count))))
 
 -- token i of a list; past its end a token that nothing derives
 abbrev pub END-TOKEN : Token
@@ -65,13 +65,13 @@ abbrev pub tokenIn : List Token → ℕ → Token
 tokenIn ts i = getD ts i END-TOKEN
 
 -- 7 where the tokens have no derivation, else what their tree folds to is judged
-abbrev pub concluded : (codes : List ℕ) → Outcome Attributes → Evaluation
-concluded cs (underived i) = refusedWith NO-DERIVATION
-concluded cs (accepted a) = judged (barOutside 0 cs) a
+abbrev pub answerTokens : (codes : List ℕ) → Outcome Attributes → Evaluation
+answerTokens cs (underived i) = refusedWith NO-DERIVATION
+answerTokens cs (accepted a) = checkThenAnswer (barOutside 0 cs) a
 
 -- the answer to a list of tokens that was read in an expression e, over a table t
 unfoldable pub ofTokens : (e t : List ℕ) → List Token → Evaluation
-ofTokens e t ts = concluded (codesOf ts) (parse codeOf (meaning e t) (tokenIn ts) (length ts))
+ofTokens e t ts = answerTokens (codesOf ts) (parse codeOf (meaning e t) (tokenIn ts) (length ts))
 
 -- the refusal that reading met, else the answer to the tokens
 abbrev pub ended : Ending → Evaluation → Evaluation
@@ -85,14 +85,14 @@ evaluation e t =
     pick (wellFormed t) (ended (reading e .ending) given) (refusedWith TABLE-MALFORMED)
 
 -- what the code's answer says: with a string's place go the bytes that stand there
-abbrev pub valueSaid : (e t : List ℕ) → Shown → Value
-valueSaid e t (Number x) = number x
-valueSaid e t (String p) = string p (bytesAt e t p)
-valueSaid e t (Wide p) = wide p (bytesAt e t p)
+abbrev pub denoteAnswerValue : (e t : List ℕ) → AnswerValue → Value
+denoteAnswerValue e t (Number x) = number x
+denoteAnswerValue e t (String p) = string p (bytesAt e t p)
+denoteAnswerValue e t (Wide p) = wide p (bytesAt e t p)
 
-abbrev pub stated : (e t : List ℕ) → Answer → Evaluation
-stated e t (Given v n) = value (valueSaid e t v) n
-stated e t (Refusing r) = refused r
+abbrev pub denoteAnswer : (e t : List ℕ) → Answer → Evaluation
+denoteAnswer e t (Given v n) = value (denoteAnswerValue e t v) n
+denoteAnswer e t (Refusing r) = refused r
 
 -- What document 01 says of each case. A refusal has its number and its line, no value and a count of 0; a value has no refusal number,
 -- which 0 stands for, and no line. Kinds are numbered as the table numbers them.
@@ -138,5 +138,5 @@ textOf (refused r) = []
 
 -- what is handed back of an answer: the part of the caller's memory at its place, with the string's bytes
 pub record HandsBack (e t : RefT (List ℕ)) (a : Answer) (r : RefT (List ℕ)) : Type 0 where
-  pub part : PartAt e t (placeOf (stated (now e) (now t) a)) r
-  pub bytes : now r ≡ textOf (stated (now e) (now t) a)
+  pub part : PartAt e t (placeOf (denoteAnswer (now e) (now t) a)) r
+  pub bytes : now r ≡ textOf (denoteAnswer (now e) (now t) a)

@@ -6,7 +6,7 @@ use units::Refusal;
 use value::Place;
 
 // A value by its kind. A string is the part of the expression or of the table where it stands.
-pub enum Value {
+pub enum AnswerValue {
     Number(u64),
     String(Place),
     Wide(Place),
@@ -14,6 +14,6 @@ pub enum Value {
 
 // A value with the count of operators, or the refusal.
 pub enum Answer {
-    Value(Value, usize),
+    Value(AnswerValue, usize),
     Refused(Refusal),
 }

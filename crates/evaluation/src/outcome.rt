@@ -1,6 +1,6 @@
 // The answer to an expression, and the part of memory that holds a string.
 use crate::Answer;
-use crate::Value;
+use crate::AnswerValue;
 use crate::bars;
 use expression::Parsed;
 use text::parts;
@@ -8,9 +8,9 @@ use token::scan;
 use token::scan::Ending;
 use units::Offset;
 use units::TokenNumber;
-use value::Held;
+use value::Attributes;
 use value::Kind;
-use value::Known;
+use value::Value;
 use value::values;
 ghost use mathlib.Core.Path.{_≡_};
 ghost use mathlib.Core.Bool.{true};
@@ -21,26 +21,26 @@ ghost use Rattle.settings.specs.Table.{wellFormed};
 ghost use Rattle.token.specs.Tokens.{reading};
 ghost use Rattle.token.specs.Steps.{Room};
 ghost use Rattle.grammar.specs.Parse.{parse};
-ghost use Rattle.value.specs.Denote.{meant, known};
+ghost use Rattle.value.specs.Denote.{denoteValue, denoteAttributes};
 ghost use Rattle.expression.specs.Meaning.{codeOf, meaning};
 ghost use Rattle.expression.specs.Parsing.{tokenAt, Ready};
-ghost use Rattle.evaluation.specs.Evaluation.{refusedWith, finished, clashes as clashesOf, judged, concluded, evaluation, stated, HandsBack};
+ghost use Rattle.evaluation.specs.Evaluation.{refusedWith, answerValue, clashes as clashesOf, checkThenAnswer, answerTokens, evaluation, denoteAnswer, HandsBack};
 
 fn refused(number: u8) -> Answer
-    ensures { λ r. ⌜ ((e t : List ℕ) → stated e t r ≡ refusedWith number) ⌝ }
+    ensures { λ r. ⌜ ((e t : List ℕ) → denoteAnswer e t r ≡ refusedWith number) ⌝ }
 {
     Answer::Refused(units::refuse(number))
 }
 
 // A value that evaluation ended with, or the refusal that it met.
-fn finish(value: Held, count: usize) -> Answer
-    ensures { λ r. ⌜ ((e t : List ℕ) → stated e t r ≡ finished (meant e t value) count) ⌝ }
+fn answer_value(value: Value, count: usize) -> Answer
+    ensures { λ r. ⌜ ((e t : List ℕ) → denoteAnswer e t r ≡ answerValue (denoteValue e t value) count) ⌝ }
 {
     match value {
-        Held::Number(x) => Answer::Value(Value::Number(x), count),
-        Held::String(p) => Answer::Value(Value::String(p), count),
-        Held::Wide(p) => Answer::Value(Value::Wide(p), count),
-        Held::Fault(number) => refused(number),
+        Value::Number(x) => Answer::Value(AnswerValue::Number(x), count),
+        Value::String(p) => Answer::Value(AnswerValue::String(p), count),
+        Value::Wide(p) => Answer::Value(AnswerValue::Wide(p), count),
+        Value::Fault(number) => refused(number),
     }
 }
 
@@ -56,8 +56,8 @@ fn clashes(k: Kind) -> bool
 }
 
 // What is answered where the tokens derive.
-fn judge(bar: bool, a: Known) -> Answer
-    ensures { λ r. ⌜ ((e t : List ℕ) → stated e t r ≡ judged bar (known e t a)) ⌝ }
+fn check_then_answer(bar: bool, a: Attributes) -> Answer
+    ensures { λ r. ⌜ ((e t : List ℕ) → denoteAnswer e t r ≡ checkThenAnswer bar (denoteAttributes e t a)) ⌝ }
 {
     if bar {
         return refused(units::BAR_OUTSIDE);
@@ -70,11 +70,11 @@ fn judge(bar: bool, a: Known) -> Answer
         return refused(units::KINDS_UNSUITED);
     }
     let value = a.value;
-    finish(value, a.count)
+    answer_value(value, a.count)
 }
 
 // The answer to the first n tokens of the arrays.
-fn conclude<'a>(
+fn answer_tokens<'a>(
     expr: &'a [u8],
     table: &'a [u8],
     codes: &'a [u8; 200],
@@ -84,7 +84,7 @@ fn conclude<'a>(
     n: TokenNumber,
 ) -> Answer
     requires { ⌜ Ready (now table) (now codes) (now starts) (now lens) (now values) (n .0) ⌝ }
-    ensures { λ r. ⌜ stated (now (expr .entry)) (now (table .entry)) r ≡ concluded (take (n .0) (now (codes .entry))) (parse codeOf (meaning (now (expr .entry)) (now (table .entry))) (tokenAt (now (codes .entry)) (now (starts .entry)) (now (lens .entry)) (now (values .entry)) (n .0)) (n .0)) ⌝ }
+    ensures { λ r. ⌜ denoteAnswer (now (expr .entry)) (now (table .entry)) r ≡ answerTokens (take (n .0) (now (codes .entry))) (parse codeOf (meaning (now (expr .entry)) (now (table .entry))) (tokenAt (now (codes .entry)) (now (starts .entry)) (now (lens .entry)) (now (values .entry)) (n .0)) (n .0)) ⌝ }
 {
     match expression::parse(expr, table, codes, starts, lens, values, n) {
         Parsed::Bad(_) => refused(units::NO_DERIVATION),
@@ -92,13 +92,13 @@ fn conclude<'a>(
             if end.0 != n.0 {
                 return refused(units::NO_DERIVATION);
             }
-            judge(bars::outside(codes, n), a)
+            check_then_answer(bars::outside(codes, n), a)
         }
     }
 }
 
 // The answer over a table that is known to be well formed, with room for the tokens in slices that are lent.
-fn in_room<'a>(
+fn evaluate_with_room<'a>(
     codes: &mut [u8; 200],
     starts: &mut [u16],
     lens: &mut [u16],
@@ -107,14 +107,14 @@ fn in_room<'a>(
     table: &'a [u8],
 ) -> Answer
     requires { ⌜ (wellFormed (now table) ≡ true) × Room (reading (now expr)) (now codes) (now starts) (now lens) (now values) ⌝ }
-    ensures { λ r. ⌜ stated (now (expr .entry)) (now (table .entry)) r ≡ evaluation (now (expr .entry)) (now (table .entry)) ⌝ }
+    ensures { λ r. ⌜ denoteAnswer (now (expr .entry)) (now (table .entry)) r ≡ evaluation (now (expr .entry)) (now (table .entry)) ⌝ }
 {
     let s = scan::tokens(codes, starts, lens, values, expr);
     let ending = s.ending;
     let read = s.tokens;
     match ending {
         Ending::Refused(r) => Answer::Refused(r),
-        Ending::Complete => conclude(expr, table, codes, starts, lens, values, read),
+        Ending::Complete => answer_tokens(expr, table, codes, starts, lens, values, read),
     }
 }
 
@@ -122,31 +122,31 @@ fn in_room<'a>(
 const SHORT: usize = 32;
 
 // The answer over a table that is known to be well formed.
-pub fn in_sound_table<'a>(expr: &'a [u8], table: &'a [u8]) -> Answer
+pub fn evaluate_in<'a>(expr: &'a [u8], table: &'a [u8]) -> Answer
     requires { ⌜ wellFormed (now table) ≡ true ⌝ }
-    ensures { λ r. ⌜ stated (now (expr .entry)) (now (table .entry)) r ≡ evaluation (now (expr .entry)) (now (table .entry)) ⌝ }
+    ensures { λ r. ⌜ denoteAnswer (now (expr .entry)) (now (table .entry)) r ≡ evaluation (now (expr .entry)) (now (table .entry)) ⌝ }
 {
     let mut codes = [0u8; 200];
     if expr.len() <= SHORT {
         let mut starts = [0u16; 32];
         let mut lens = [0u16; 32];
         let mut values = [0u64; 32];
-        return in_room(&mut codes, &mut starts, &mut lens, &mut values, expr, table);
+        return evaluate_with_room(&mut codes, &mut starts, &mut lens, &mut values, expr, table);
     }
     let mut starts = [0u16; 200];
     let mut lens = [0u16; 200];
     let mut values = [0u64; 200];
-    in_room(&mut codes, &mut starts, &mut lens, &mut values, expr, table)
+    evaluate_with_room(&mut codes, &mut starts, &mut lens, &mut values, expr, table)
 }
 
 // The answer to an expression over a table, whatever their bytes.
 pub fn evaluate<'a>(expr: &'a [u8], table: &'a [u8]) -> Answer
-    ensures { λ r. ⌜ stated (now (expr .entry)) (now (table .entry)) r ≡ evaluation (now (expr .entry)) (now (table .entry)) ⌝ }
+    ensures { λ r. ⌜ denoteAnswer (now (expr .entry)) (now (table .entry)) r ≡ evaluation (now (expr .entry)) (now (table .entry)) ⌝ }
 {
     if !settings::is_well_formed(table) {
         return refused(units::TABLE_MALFORMED);
     }
-    in_sound_table(expr, table)
+    evaluate_in(expr, table)
 }
 
 // The part of the expression or of the table that holds an answer's string; an empty part for a number and for a refusal.
@@ -155,9 +155,9 @@ pub fn string<'a>(expr: &'a [u8], table: &'a [u8], a: Answer) -> &'a [u8]
 {
     match a {
         Answer::Value(v, _) => match v {
-            Value::Number(_) => parts::part(expr, Offset(0), 0),
-            Value::String(p) => values::bytes(expr, table, p),
-            Value::Wide(p) => values::bytes(expr, table, p),
+            AnswerValue::Number(_) => parts::part(expr, Offset(0), 0),
+            AnswerValue::String(p) => values::bytes(expr, table, p),
+            AnswerValue::Wide(p) => values::bytes(expr, table, p),
         },
         Answer::Refused(_) => parts::part(expr, Offset(0), 0),
     }

@@ -20,8 +20,8 @@ use Rattle.syntax.specs.Order.{UNARY, FILLER, postfix, Ordered}
 use Rattle.syntax.proofs.Orders.{ended}
 use Rattle.value.specs.Values.{skips}
 use Rattle.value.specs.Attributes.{Attributes, firstArm, unaryFrom, binaryFrom, choiceFrom}
-use Rattle.value.specs.declared.Known.{Known}
-use Rattle.value.specs.Denote.{known}
+use Rattle.value.specs.declared.Attributes.{Attributes as CodedAttributes}
+use Rattle.value.specs.Denote.{denoteAttributes}
 use Rattle.value.proofs.Laws.{skipped-most, chosen-most}
 use Rattle.expression.specs.Meaning.{codeOf, meaning}
 use Rattle.expression.specs.Parsing.{tokenAt}
@@ -228,11 +228,12 @@ module _ (i : Input) (most : ℕ) (few : i .n ≤ 200) where
         some bads q = let w : _≡_ {A = ℕ} 0 1 = cc in absurd (omega arith)
         some (gots {l = y} {a} m) q = let w : y ≡ l = cc in (a, gives a (rw w at m))
 
-    pub come : Ordered (i .codes) (i .n) (find expression 0) (got l j) → (z : Known) → ((v : Attributes) → Gives i most [] l v → known (i .e) (i .t) z ≡ v)
-        → Yields codeOf (meaning (i .e) (i .t)) (tokenIn i) (i .n) (find expression 0) (got (known (i .e) (i .t) z) j)
+    pub come : Ordered (i .codes) (i .n) (find expression 0) (got l j) → (z : CodedAttributes) →
+        ((v : Attributes) → Gives i most [] l v → denoteAttributes (i .e) (i .t) z ≡ v)
+        → Yields codeOf (meaning (i .e) (i .t)) (tokenIn i) (i .n) (find expression 0) (got (denoteAttributes (i .e) (i .t) z) j)
     come u z f = record { with-fuel = λ fuel h. same (agree fuel .finds expression 0 tt) (u .with-fuel fuel h) }
       where
-        same : {x : Result (List ℕ)} {r : Result Attributes} → Alike x r → x ≡ got l j → r ≡ got (known (i .e) (i .t) z) j
+        same : {x : Result (List ℕ)} {r : Result Attributes} → Alike x r → x ≡ got l j → r ≡ got (denoteAttributes (i .e) (i .t) z) j
         same bads q = let w : _≡_ {A = ℕ} 0 1 = cc in absurd (omega arith)
         same (gots {l = y} {a} {j = p} m) q =
             let w : y ≡ l = cc in

@@ -12,7 +12,7 @@ use Rattle.grammar.specs.Grammar.{expression}
 use Rattle.grammar.specs.Parse.{Result, bad, got, find, Yields}
 use Rattle.syntax.specs.Order.{codeAt}
 use Rattle.value.specs.Attributes.{Attributes}
-use Rattle.value.specs.Denote.{known}
+use Rattle.value.specs.Denote.{denoteAttributes}
 use Rattle.expression.specs.Meaning.{codeOf, meaning}
 use Rattle.expression.specs.declared.Parsed.{Parsed}
 use Rattle.expression.specs.declared.Parsed.the-variants.{Bad, Got}
@@ -27,7 +27,7 @@ tokenAt cs ss ls vs n i = record { code = codeAt cs n i; start = entryAt ss n i;
 
 abbrev pub found : (e t : List ℕ) → Parsed → Result Attributes
 found e t (Bad i) = bad (i .0)
-found e t (Got a j) = got (known e t a) (j .0)
+found e t (Got a j) = got (denoteAttributes e t a) (j .0)
 
 -- what has to be answered: what the grammar's parser makes of the tokens from the first one on
 abbrev pub Parses : (e t cs ss ls vs : List ℕ) (n : ℕ) → Parsed → Type 0

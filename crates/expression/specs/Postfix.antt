@@ -8,8 +8,8 @@ use Rattle.text.specs.Bytes.{pick}
 use Rattle.codes.specs.Codes.{QUESTION}
 use Rattle.grammar.specs.Grammar.{isPrimary}
 use Rattle.value.specs.Attributes.{Attributes, primaryOf, unaryFrom, binaryFrom, choiceFrom}
-use Rattle.value.specs.declared.Known.{Known}
-use Rattle.value.specs.Denote.{known}
+use Rattle.value.specs.declared.Attributes.{Attributes as CodedAttributes}
+use Rattle.value.specs.Denote.{denoteAttributes}
 use Rattle.syntax.specs.Order.{codeAt, UNARY, FILLER}
 use Rattle.expression.specs.Parsing.{tokenAt, Ready}
 
@@ -94,5 +94,5 @@ module _ (i : Input) (most : ℕ) where
     pub gives : Gives [] (take m o) value
 
   -- what has to be answered: what they leave
-  abbrev pub Folds : (o : List ℕ) (m : ℕ) → Known → Type 0
-  Folds o m z = (v : Attributes) → Gives [] (take m o) v → known (i .e) (i .t) z ≡ v
+  abbrev pub Folds : (o : List ℕ) (m : ℕ) → CodedAttributes → Type 0
+  Folds o m z = (v : Attributes) → Gives [] (take m o) v → denoteAttributes (i .e) (i .t) z ≡ v

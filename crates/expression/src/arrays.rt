@@ -1,9 +1,9 @@
 // A token in the scanner's arrays.
 use units::TokenNumber;
-use value::attributes::Lexical;
+use value::forms::Token;
 ghost use mathlib.Core.Path.{_≡_};
 ghost use Prim.Native.Nat.{_<_};
-ghost use Rattle.value.specs.Denote.{tokenOf};
+ghost use Rattle.value.specs.Denote.{denoteToken};
 ghost use Rattle.expression.specs.Parsing.{tokenAt, Holding};
 
 pub fn token_at(
@@ -13,12 +13,12 @@ pub fn token_at(
     values: &[u64],
     n: TokenNumber,
     at: TokenNumber,
-) -> Lexical
+) -> Token
     requires { ⌜ Holding (now codes) (now starts) (now lens) (now values) (n .0) × (at .0 < n .0) ⌝ }
-    ensures { λ r. ⌜ tokenOf r ≡ tokenAt (now (codes .entry)) (now (starts .entry)) (now (lens .entry)) (now (values .entry)) (n .0) (at .0) ⌝ }
+    ensures { λ r. ⌜ denoteToken r ≡ tokenAt (now (codes .entry)) (now (starts .entry)) (now (lens .entry)) (now (values .entry)) (n .0) (at .0) ⌝ }
 {
     let i = at.0;
-    Lexical {
+    Token {
         code: codes[i],
         start: starts[i],
         len: lens[i],

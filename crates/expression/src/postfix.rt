@@ -3,8 +3,8 @@ use crate::arrays;
 use operands::stack;
 use syntax::tokens;
 use units::TokenNumber;
-use value::Known;
-use value::attributes;
+use value::Attributes;
+use value::forms;
 ghost use mathlib.Core.Path.{_≡_};
 ghost use lib.ListN.{length};
 ghost use Rattle.expression.specs.Postfix.{Foldable, Folds};
@@ -28,7 +28,7 @@ pub fn fold<'a>(
     n: TokenNumber,
     order: &'a [u16; 200],
     filled: usize,
-) -> Known
+) -> Attributes
     requires { ⌜ Foldable (record { e = now expr; t = now table; codes = now codes; starts = now starts; lens = now lens; values = now values; n = n .0 }) (length (now waiting)) (now order) filled ⌝ }
     ensures { λ r. ⌜ Folds (record { e = now (expr .entry); t = now (table .entry); codes = now (codes .entry); starts = now (starts .entry); lens = now (lens .entry); values = now (values .entry); n = n .0 }) (length (now (waiting .entry))) (now (order .entry)) filled r ⌝ }
 {
@@ -45,7 +45,7 @@ pub fn fold<'a>(
             let o = tokens::code_at(codes, n, TokenNumber(x));
             if tokens::is_primary(o) {
                 let k = arrays::token_at(codes, starts, lens, values, n, TokenNumber(x));
-                stack::store(waiting, top, attributes::of_primary(expr, table, k));
+                stack::store(waiting, top, forms::of_primary(expr, table, k));
                 top += 1;
             } else if e != tokens::FILLER {
                 if o == codes::QUESTION {

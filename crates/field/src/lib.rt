@@ -1,7 +1,7 @@
 // One PCD data field: an expression's value in the bytes of its datum.
 use datum::Written;
 use evaluation::Answer;
-use evaluation::Value;
+use evaluation::AnswerValue;
 use evaluation::outcome;
 ghost use Rattle.datum.specs.Encoding.{Writes};
 ghost use Rattle.field.specs.Fields.{fieldOf};
@@ -14,9 +14,13 @@ pub fn field<'a>(buffer: &mut [u8], expr: &'a [u8], table: &'a [u8], code: u8) -
     match answer {
         Answer::Refused(r) => Written::Refused(r),
         Answer::Value(v, _) => match v {
-            Value::Number(x) => datum::number(buffer, code, x),
-            Value::String(_) => datum::string(buffer, code, outcome::string(expr, table, answer)),
-            Value::Wide(_) => datum::wide(buffer, code, outcome::string(expr, table, answer)),
+            AnswerValue::Number(x) => datum::number(buffer, code, x),
+            AnswerValue::String(_) => datum::string(
+                buffer,
+                code,
+                outcome::string(expr, table, answer),
+            ),
+            AnswerValue::Wide(_) => datum::wide(buffer, code, outcome::string(expr, table, answer)),
         },
     }
 }

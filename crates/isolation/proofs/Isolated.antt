@@ -12,19 +12,19 @@ use Rattle.text.proofs.Laws.{pick-case}
 use Rattle.settings.specs.Table.{wellFormed}
 use Rattle.line.specs.Lines.{lines}
 use Rattle.line.specs.Directives.{directiveOf, textOf}
-use Rattle.condition.specs.Conditions.{says, countOf}
-use Rattle.nesting.specs.Groups.{standingOf}
-use Rattle.ruling.specs.Standings.{reads}
+use Rattle.condition.specs.Conditions.{evaluate, countOf}
+use Rattle.nesting.specs.Groups.{stateOf}
+use Rattle.ruling.specs.States.{reads}
 use Rattle.nesting.specs.Decide.{State, go}
 use Rattle.nesting.proofs.Decided.{Marked, Unmarked, read-marked, unread-marked}
-use Rattle.select.specs.Step.{heard, step}
+use Rattle.select.specs.Step.{readCondition, step}
 use Rattle.select.specs.Select.{Result, accepted, refused, start, selection, numberOfLines, Selects}
 use Rattle.select.specs.declared.Answer.{Answer}
 use Rattle.select.specs.declared.Answer.the-variants.{Accepted}
 use Rattle.isolation.specs.Isolation.{Read, Agrees, Isolation, TwoCalls}
-use Rattle.isolation.proofs.SameSays.{same-says}
+use Rattle.isolation.proofs.SameConditions.{same-condition}
 use Rattle.isolation.proofs.Simulation.{Like, AllLike, same-run}
-use Rattle.select.proofs.Before.{runs, accepted-runs, accepted-sound}
+use Rattle.select.proofs.LimitsCorrect.{runs, accepted-runs, accepted-sound}
 
 -- lines that agree are alike
 agree-like : (t₁ t₂ : List ℕ) → wellFormed t₁ ≡ true → wellFormed t₂ ≡ true
@@ -33,40 +33,42 @@ agree-like t₁ t₂ sound₁ sound₂ m l₁ l₂ h a =
     record {
       short = h;
       word = a .word;
-      said = λ r. ap (λ l. says t₂ (directiveOf l₁) (textOf l)) (a .bytes r) ∙ sym (same-says t₁ t₂ (textOf l₁) sound₁ sound₂ (directiveOf l₁) (a .records r));
+      said = λ r. ap (λ l. evaluate t₂ (directiveOf l₁) (textOf l)) (a .bytes r) ∙ sym
+          (same-condition t₁ t₂ (textOf l₁) sound₁ sound₂ (directiveOf l₁) (a .records r));
     }
 
 pub isolation : Isolation
 isolation f₁ t₁ room₁ ms c h f₂ t₂ room₂ k =
     let p = accepted-runs f₁ t₁ room₁ ms c h in
     let like : AllLike t₁ t₂ ms (lines f₁) (lines f₂) = λ i l.
-    agree-like t₁ t₂ (accepted-sound f₁ t₁ room₁ ms c h) (k .sound) (getD ms i 0) (getD (lines f₁) i []) (getD (lines f₂) i []) (k .short i (omega (arith, k .as-many))) (k .agrees i l) in
+    agree-like t₁ t₂ (accepted-sound f₁ t₁ room₁ ms c h) (k .sound) (getD ms i 0) (getD (lines f₁) i []) (getD (lines f₂) i [])
+    (k .short i (omega (arith, k .as-many))) (k .agrees i l) in
     runs f₂ t₂ room₂ (k .sound) (k .small) (omega (arith, p .1, k .as-many)) (k .enough)
     ∙ same-run t₁ t₂ 1 start (lines f₁) (lines f₂) ms c (k .as-many) like (p .0)
 
 -- a line's mark tells whether its directive was read
 module _ (t : List ℕ) (n : ℕ) (s : State) (l : List ℕ) where
-  read-above : reads (directiveOf l) (standingOf (s .groups)) ≡ true → Marked (step t n s l)
+  read-above : reads (directiveOf l) (stateOf (s .groups)) ≡ true → Marked (step t n s l)
   unfolding step
   read-above h =
       pick-case Marked (ltb 1024 (length l)) (λ _. tt)
-      (λ _. read-marked (directiveOf l) (heard t (s .groups) l) n (s .count + countOf (heard t (s .groups) l)) (s .groups) h)
+      (λ _. read-marked (directiveOf l) (readCondition t (s .groups) l) n (s .count + countOf (readCondition t (s .groups) l)) (s .groups) h)
 
-  unread-below : reads (directiveOf l) (standingOf (s .groups)) ≡ false → Unmarked (step t n s l)
+  unread-below : reads (directiveOf l) (stateOf (s .groups)) ≡ false → Unmarked (step t n s l)
   unfolding step
   unread-below h =
       pick-case Unmarked (ltb 1024 (length l)) (λ _. tt)
-      (λ _. unread-marked (directiveOf l) (heard t (s .groups) l) n (s .count + countOf (heard t (s .groups) l)) (s .groups) h)
+      (λ _. unread-marked (directiveOf l) (readCondition t (s .groups) l) n (s .count + countOf (readCondition t (s .groups) l)) (s .groups) h)
 
 -- of a step, by the standing of the innermost group
 abbrev pub MarksTell : Type 0
 MarksTell = (t : List ℕ) (n : ℕ) (s : State) (l : List ℕ) (m : ℕ) (s′ : State) → step t n s l ≡ go m s′
-    → (reads (directiveOf l) (standingOf (s .groups)) ≡ true) ↔ Read m
+    → (reads (directiveOf l) (stateOf (s .groups)) ≡ true) ↔ Read m
 
 pub marks-tell : MarksTell
-marks-tell t n s l m s′ e = (λ h. rw e at (read-above t n s l h), by (reads (directiveOf l) (standingOf (s .groups))) refl)
+marks-tell t n s l m s′ e = (λ h. rw e at (read-above t n s l h), by (reads (directiveOf l) (stateOf (s .groups))) refl)
   where
-    by : (b : Bool) → reads (directiveOf l) (standingOf (s .groups)) ≡ b → 3 ≤ m → b ≡ true
+    by : (b : Bool) → reads (directiveOf l) (stateOf (s .groups)) ≡ b → 3 ≤ m → b ≡ true
     by true q h = refl
     by false q h = let z : m ≤ 2 = rw e at (unread-below t n s l q) in absurd (omega arith)
 

@@ -1,3 +1,3 @@
-pub mod SameSays
+pub mod SameConditions
 pub mod Simulation
 pub mod Isolated

@@ -11,14 +11,14 @@ use borrow.Author.Tests.{ltb-false}
 use Rattle.units.specs.Refusals.{LINE-LONG}
 use Rattle.text.specs.Bytes.{pick}
 use Rattle.line.specs.Directives.{directiveOf, textOf}
-use Rattle.condition.specs.Conditions.{says, countOf}
+use Rattle.condition.specs.Conditions.{evaluate, countOf}
 use Rattle.line.specs.declared.Condition.the-variants.{Fails}
-use Rattle.nesting.specs.Groups.{standingOf}
-use Rattle.ruling.specs.Standings.{reads}
+use Rattle.nesting.specs.Groups.{stateOf}
+use Rattle.ruling.specs.States.{reads}
 use Rattle.nesting.specs.Decide.{State, Outcome, go, stop, decided}
 use Rattle.nesting.proofs.Decided.{Marked, read-marked}
-use Rattle.select.proofs.Before.{never}
-use Rattle.select.specs.Step.{heard, step}
+use Rattle.select.proofs.LimitsCorrect.{never}
+use Rattle.select.specs.Step.{readCondition, step}
 use Rattle.select.proofs.Steps.{decided-step}
 use Rattle.select.specs.Select.{Result, accepted, refused, prepend, after, run}
 
@@ -26,7 +26,7 @@ use Rattle.select.specs.Select.{Result, accepted, refused, prepend, after, run}
 pub record Like (t₁ t₂ : List ℕ) (m : ℕ) (l₁ l₂ : List ℕ) : Type 0 where
   pub short : length l₂ ≤ 1024
   pub word : directiveOf l₂ ≡ directiveOf l₁
-  pub said : 3 ≤ m → says t₂ (directiveOf l₁) (textOf l₂) ≡ says t₁ (directiveOf l₁) (textOf l₁)
+  pub said : 3 ≤ m → evaluate t₂ (directiveOf l₁) (textOf l₂) ≡ evaluate t₁ (directiveOf l₁) (textOf l₁)
 
 never-stops : (A : Type 0) (r m : ℕ) (s : State) → stop r ≡ go m s → A
 never-stops A r m s e = let z : _≡_ {A = ℕ} 0 1 = cc in absurd (omega arith)
@@ -37,30 +37,33 @@ module _ (t₁ t₂ : List ℕ) (n : ℕ) (s : State) (l₁ l₂ : List ℕ) (m 
   short-line e = by (ltb 1024 (length l₁)) refl e
     where
       by : (b : Bool) → ltb 1024 (length l₁) ≡ b
-          → pick b (stop LINE-LONG) (decided (directiveOf l₁) (heard t₁ (s .groups) l₁) n (s .count + countOf (heard t₁ (s .groups) l₁)) (s .groups)) ≡ go m s′ → length l₁ ≤ 1024
+          → pick b (stop LINE-LONG) (decided (directiveOf l₁) (readCondition t₁ (s .groups) l₁) n
+          (s .count + countOf (readCondition t₁ (s .groups) l₁)) (s .groups)) ≡ go m s′ → length l₁ ≤ 1024
       by true q e = never-stops (length l₁ ≤ 1024) LINE-LONG m s′ e
       by false q e = ltb-false 1024 (length l₁) q
 
   -- the mark of a line that is read
-  read-mark : (e : step t₁ n s l₁ ≡ go m s′) → reads (directiveOf l₁) (standingOf (s .groups)) ≡ true → 3 ≤ m
+  read-mark : (e : step t₁ n s l₁ ≡ go m s′) → reads (directiveOf l₁) (stateOf (s .groups)) ≡ true → 3 ≤ m
   read-mark e h =
       let d = decided-step t₁ n s l₁ (short-line e) in
-      let q : Marked (decided (directiveOf l₁) (heard t₁ (s .groups) l₁) n (s .count + countOf (heard t₁ (s .groups) l₁)) (s .groups)) = read-marked (directiveOf l₁) (heard t₁ (s .groups) l₁) n (s .count + countOf (heard t₁ (s .groups) l₁)) (s .groups) h in
+      let q : Marked (decided (directiveOf l₁) (readCondition t₁ (s .groups) l₁) n (s .count + countOf (readCondition t₁ (s .groups) l₁))
+      (s .groups)) = read-marked (directiveOf l₁) (readCondition t₁ (s .groups) l₁) n
+      (s .count + countOf (readCondition t₁ (s .groups) l₁)) (s .groups) h in
       rw (sym d ∙ e) at q
 
   -- what is heard of both lines
-  same-heard : step t₁ n s l₁ ≡ go m s′ → heard t₂ (s .groups) l₂ ≡ heard t₁ (s .groups) l₁
-  unfolding heard
-  same-heard e = rw (like .word) (by (reads (directiveOf l₁) (standingOf (s .groups))) refl)
+  same-read-condition : step t₁ n s l₁ ≡ go m s′ → readCondition t₂ (s .groups) l₂ ≡ readCondition t₁ (s .groups) l₁
+  unfolding readCondition
+  same-read-condition e = rw (like .word) (by (reads (directiveOf l₁) (stateOf (s .groups))) refl)
     where
-      by : (b : Bool) → reads (directiveOf l₁) (standingOf (s .groups)) ≡ b
-          → pick b (says t₂ (directiveOf l₁) (textOf l₂)) (Fails 0) ≡ pick b (says t₁ (directiveOf l₁) (textOf l₁)) (Fails 0)
+      by : (b : Bool) → reads (directiveOf l₁) (stateOf (s .groups)) ≡ b
+          → pick b (evaluate t₂ (directiveOf l₁) (textOf l₂)) (Fails 0) ≡ pick b (evaluate t₁ (directiveOf l₁) (textOf l₁)) (Fails 0)
       by true q = like .said (read-mark e q)
       by false q = refl
 
   same-step : step t₁ n s l₁ ≡ go m s′ → step t₂ n s l₂ ≡ go m s′
   same-step e =
-      let h = same-heard e in
+      let h = same-read-condition e in
       decided-step t₂ n s l₂ (like .short) ∙ rw (like .word, h) (sym (decided-step t₁ n s l₁ (short-line e)) ∙ e)
 
 -- line by line
@@ -69,7 +72,8 @@ AllLike t₁ t₂ ms ls₁ ls₂ = (i : ℕ) → i < length ls₁ → Like t₁ 
 
 -- a first line and the lines after it, where those go the same way from any state
 module _ (t₁ t₂ : List ℕ) (n : ℕ) (s : State) (l₁ l₂ : List ℕ) (ls₁ ls₂ : List (List ℕ)) (ms : List ℕ) (c : ℕ) (a : AllLike t₁ t₂ ms (l₁ ∷ ls₁) (l₂ ∷ ls₂))
-    (rest : (s′ : State) (ms′ : List ℕ) (c′ : ℕ) → AllLike t₁ t₂ ms′ ls₁ ls₂ → run t₁ (n + 1) s′ ls₁ ≡ accepted ms′ c′ → run t₂ (n + 1) s′ ls₂ ≡ accepted ms′ c′) where
+    (rest : (s′ : State) (ms′ : List ℕ) (c′ : ℕ) → AllLike t₁ t₂ ms′ ls₁ ls₂ → run t₁ (n + 1) s′ ls₁ ≡ accepted ms′ c′ → run t₂ (n + 1) s′
+    ls₂ ≡ accepted ms′ c′) where
   abbrev Second : Type 0
   Second = after (step t₂ n s l₂) n (λ s′. run t₂ (n + 1) s′ ls₂) ≡ accepted ms c
 

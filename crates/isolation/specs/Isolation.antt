@@ -10,7 +10,7 @@ use Rattle.settings.specs.Table.{wellFormed}
 use Rattle.line.specs.Lines.{lines}
 use Rattle.line.specs.Directives.{directiveOf, textOf}
 use Rattle.isolation.specs.Naming.{SameRecords}
-use Rattle.select.specs.Select.{MOST-FILE, accepted, selection, Selects}
+use Rattle.select.specs.Select.{MAX-FILE, accepted, selection, Selects}
 use Rattle.select.specs.declared.Answer.{Answer}
 use Rattle.select.specs.declared.Answer.the-variants.{Accepted}
 
@@ -32,7 +32,7 @@ pub record Comparable (f₁ t₁ : List ℕ) (ms : List ℕ) (f₂ t₂ : List �
   pub as-many : length (lines f₂) ≡ length (lines f₁)
   pub agrees : (i : ℕ) → i < length (lines f₁) → Agrees t₁ t₂ (getD ms i 0) (getD (lines f₁) i []) (getD (lines f₂) i [])
   pub sound : wellFormed t₂ ≡ true
-  pub small : length f₂ ≤ MOST-FILE
+  pub small : length f₂ ≤ MAX-FILE
   pub short : (i : ℕ) → i < length (lines f₂) → length (getD (lines f₂) i []) ≤ 1024
   pub enough : length (lines f₂) ≤ room
 

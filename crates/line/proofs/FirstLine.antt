@@ -11,14 +11,14 @@ use lib.Dec.{eqb, ltb, leb·suc-suc}
 use borrow.Author.Tests.{lt-ltb, le-ltb, ltb-true, ltb-false, eq-eqb, ne-eqb}
 use Rattle.text.specs.Bytes.{byte, pick}
 use Rattle.text.specs.Runs.{span}
-use Rattle.text.specs.declared.runs.Set.the-variants.{Line}
+use Rattle.text.specs.declared.runs.Set.the-variants.{NotLineFeed}
 use Rattle.text.proofs.Laws.{span-fits-at}
 use Rattle.line.specs.Lines.{onto, endsLine, lines}
 use Rattle.line.specs.Cutting.{lineEnd, Cuts}
 
 -- the first line of a text ends as the code has it, and the others follow
 abbrev Splits : List ℕ → Type 0
-Splits s = lines s ≡ take (lineEnd s 0 (span Line s)) s ∷ lines (drop (suc (span Line s)) s)
+Splits s = lines s ≡ take (lineEnd s 0 (span NotLineFeed s)) s ∷ lines (drop (suc (span NotLineFeed s)) s)
 
 pick-suc : (t : Bool) (n : ℕ) → pick t (suc n) (suc (suc n)) ≡ suc (pick t n (suc n))
 pick-suc true n = refl
@@ -51,11 +51,11 @@ module _ (b : ℕ) where
       unfolding lines endsLine
       more-lines = rw (eb, ec, and-false (eqb b (byte "\r")))
 
-      span-one : span Line (c ∷ s) ≡ suc (span Line s)
+      span-one : span NotLineFeed (c ∷ s) ≡ suc (span NotLineFeed s)
       unfolding span
       span-one = rw ec
 
-      span-two : span Line (b ∷ c ∷ s) ≡ suc (suc (span Line s))
+      span-two : span NotLineFeed (b ∷ c ∷ s) ≡ suc (suc (span NotLineFeed s))
       unfolding span
       span-two = rw (eb, ec)
 
@@ -66,7 +66,7 @@ module _ (b : ℕ) where
 
       long-line : Splits (c ∷ s) → Splits (b ∷ c ∷ s)
       unfolding onto
-      long-line h = more-lines ∙ ap (onto b) h ∙ rw (span-two, span-one, end-more (span Line s))
+      long-line h = more-lines ∙ ap (onto b) h ∙ rw (span-two, span-one, end-more (span NotLineFeed s))
 
   later-line : (c : ℕ) (s : List ℕ) (t : Bool) → eqb c (byte "\n") ≡ t → (u : Bool) → eqb b (byte "\n") ≡ u
       → Splits (c ∷ s) → Splits (b ∷ c ∷ s)
@@ -116,17 +116,19 @@ module _ (f : List ℕ) (a e : ℕ) where
       by true false q v = omega arith
       by false u q v = omega arith
 
-  cut-off : a < length f → e ≡ a + span Line (drop a f) → lines (drop a f) ≡ take (lineEnd f a e - a) (drop a f) ∷ lines (drop (e + 1) f)
+  cut-off : a < length f → e ≡ a + span NotLineFeed (drop a f) → lines (drop a f) ≡ take (lineEnd f a e - a) (drop a f) ∷ lines (drop (e + 1) f)
   cut-off h at =
-      let end : lineEnd f a e - a ≡ lineEnd (drop a f) 0 (span Line (drop a f)) = omega (arith, ap (lineEnd f a) at, shifted f a (span Line (drop a f))) in
-      let after : a + suc (span Line (drop a f)) ≡ e + 1 = omega arith in
-      let rest : drop (suc (span Line (drop a f))) (drop a f) ≡ drop (e + 1) f = drop-drop (suc (span Line (drop a f))) a f ∙ ap (λ (i : ℕ). drop i f) after in
+      let end : lineEnd f a e - a ≡ lineEnd (drop a f) 0 (span NotLineFeed (drop a f)) = omega
+      (arith, ap (lineEnd f a) at, shifted f a (span NotLineFeed (drop a f))) in
+      let after : a + suc (span NotLineFeed (drop a f)) ≡ e + 1 = omega arith in
+      let rest : drop (suc (span NotLineFeed (drop a f))) (drop a f) ≡ drop (e + 1) f = drop-drop (suc (span NotLineFeed (drop a f))) a f ∙
+      ap (λ (i : ℕ). drop i f) after in
       rw (end, ← rest) (splits-all (drop a f) (omega (arith, length-drop a f)))
 
-  pub lf-fits : a < length f → e ≡ a + span Line (drop a f) → e ≤ length f
-  lf-fits h at = omega (arith, span-fits-at Line f a (omega arith))
+  pub lf-fits : a < length f → e ≡ a + span NotLineFeed (drop a f) → e ≤ length f
+  lf-fits h at = omega (arith, span-fits-at NotLineFeed f a (omega arith))
 
-  pub cuts : a < length f → e ≡ a + span Line (drop a f) → (z : ℕ) → z ≡ lineEnd f a e
+  pub cuts : a < length f → e ≡ a + span NotLineFeed (drop a f) → (z : ℕ) → z ≡ lineEnd f a e
       → Cuts f a (record { end = record { 0 = z }; after = record { 0 = e + 1 } })
   cuts h at z q =
       let within = end-within (omega arith) (lf-fits h at) in

@@ -9,7 +9,7 @@ use lib.Dec.{eqb}
 use borrow.Author.Tests.{eq-eqb, ne-eqb, eqb-false}
 use Rattle.text.specs.Bytes.{byte, pick}
 use Rattle.text.specs.Runs.{span}
-use Rattle.text.specs.Order.{alike}
+use Rattle.text.specs.Order.{equal}
 use Rattle.text.specs.declared.runs.Set.the-variants.{Blanks, Letters}
 use Rattle.text.proofs.Laws.{unlike-lengths, inside, span-fits-at}
 use Rattle.line.specs.Directives.{Word, words, named, wordStart, textStart, directiveOf}
@@ -27,7 +27,7 @@ by-length [] w n h = refl
 by-length (x ∷ xs) w n h = by (eqb (length (x .text)) n) refl (by-length xs w n h)
   where
     by : (t : Bool) → eqb (length (x .text)) n ≡ t → named xs w ≡ named (ofLength n xs) w
-        → pick (alike w (x .text)) (x .directive) (named xs w) ≡ named (pick t (x ∷ ofLength n xs) (ofLength n xs)) w
+        → pick (equal w (x .text)) (x .directive) (named xs w) ≡ named (pick t (x ∷ ofLength n xs) (ofLength n xs)) w
     by true e i = rw i
     by false e i = rw (unlike-lengths w (x .text) (λ k. eqb-false (length (x .text)) n e (sym k ∙ h))) i
 

@@ -8,7 +8,7 @@ use lib.Dec.{eqb, ltb}
 use denote.Ref.{RefT, ptr, now}
 use Rattle.text.specs.Bytes.{byte, pick}
 use Rattle.text.specs.Runs.{span}
-use Rattle.text.specs.declared.runs.Set.the-variants.{Line}
+use Rattle.text.specs.declared.runs.Set.the-variants.{NotLineFeed}
 use Rattle.line.specs.Lines.{lines}
 use Rattle.line.specs.Directives.{textStart, textOf, directiveOf}
 use Rattle.line.specs.declared.cut.Cut.{Cut}
@@ -22,7 +22,7 @@ pub record Cuts (f : List ℕ) (from : ℕ) (r : Cut) : Type 0 where
   pub starts : from ≤ r .end .0
   pub within : r .end .0 ≤ length f
   pub onward : from < r .after .0
-  pub after-is : r .after .0 ≡ from + span Line (drop from f) + 1
+  pub after-is : r .after .0 ≡ from + span NotLineFeed (drop from f) + 1
 
 -- What a line is, and where the text after its word starts, for a line that is not plain.
 pub record ReadsHead (l : List ℕ) (r : Head) : Type 0 where

@@ -6,7 +6,7 @@ use mathlib.Core.List.{List, [], _∷_}
 use lib.ListN.{getD, take, drop}
 use lib.Dec.{eqb}
 use Rattle.text.specs.Bytes.{byte, bytes, pick}
-use Rattle.text.specs.Order.{alike}
+use Rattle.text.specs.Order.{equal}
 use Rattle.text.specs.Runs.{span}
 use Rattle.text.specs.declared.runs.Set.the-variants.{Blanks, Letters}
 use Rattle.line.specs.declared.Directive.{Directive}
@@ -37,7 +37,7 @@ words =
 -- any other word is unknown, an empty one too
 unfoldable pub named : List Word → List ℕ → Directive
 named [] w = Unknown
-named (x ∷ xs) w = pick (alike w (x .text)) (x .directive) (named xs w)
+named (x ∷ xs) w = pick (equal w (x .text)) (x .directive) (named xs w)
 
 -- where the word of a line starts that has one, and where the text after it starts
 unfoldable pub wordStart : List ℕ → ℕ

@@ -7,7 +7,7 @@ ghost use mathlib.Core.Path.{_≡_};
 ghost use Prim.Native.Nat.{_+_, _≤_, _<_};
 ghost use lib.ListN.{length, drop};
 ghost use Rattle.text.specs.Runs.{span};
-ghost use Rattle.text.specs.declared.runs.Set.the-variants.{Line};
+ghost use Rattle.text.specs.declared.runs.Set.the-variants.{NotLineFeed};
 ghost use Rattle.line.specs.Lines.{lines};
 ghost use Rattle.line.specs.Cutting.{lineEnd, opened, Cuts};
 
@@ -41,7 +41,7 @@ fn line_end(file: &[u8], from: Offset, lf: Offset) -> Offset
 // Where the first LF from a byte on is, or the file's end. Eight bytes per turn, so that the loop's own cost is shared by eight.
 fn lf_from(file: &[u8], from: Offset) -> Offset
     requires { ⌜ from .0 ≤ length (now file) ⌝ }
-    ensures { λ r. ⌜ r .0 ≡ from .0 + span Line (drop (from .0) (now (file .entry))) ⌝ }
+    ensures { λ r. ⌜ r .0 ≡ from .0 + span NotLineFeed (drop (from .0) (now (file .entry))) ⌝ }
 {
     let mut i = from.0;
     while 8 <= file.len() - i {
@@ -71,7 +71,7 @@ fn lf_from(file: &[u8], from: Offset) -> Offset
         }
         i += 8;
     }
-    runs::run_end(file, Offset(i), Set::Line)
+    runs::run_end(file, Offset(i), Set::NotLineFeed)
 }
 
 // The line that starts at a byte.

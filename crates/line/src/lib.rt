@@ -27,5 +27,5 @@ pub struct Head {
 pub enum Condition {
     Holds(usize),
     Fails(usize),
-    Wrong(u8),
+    Refused(u8),
 }

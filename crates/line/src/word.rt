@@ -8,7 +8,7 @@ use text::runs::Set;
 use units::Offset;
 ghost use mathlib.Core.Path.{_≡_};
 ghost use Rattle.text.specs.Bytes.{pick};
-ghost use Rattle.text.specs.Order.{alike};
+ghost use Rattle.text.specs.Order.{equal};
 ghost use Prim.Native.Nat.{_≤_};
 ghost use lib.ListN.{length};
 ghost use Rattle.line.specs.Directives.{words, named as namedIn, textStart};
@@ -16,9 +16,9 @@ ghost use Rattle.line.specs.Cutting.{ReadsHead, HandsText};
 
 // The first of two answers where a word is spelled so, else the second.
 fn spelled(w: &[u8], text: &[u8], this: Directive, other: Directive) -> Directive
-    ensures { λ r. ⌜ r ≡ pick (alike (now (w .entry)) (now (text .entry))) this other ⌝ }
+    ensures { λ r. ⌜ r ≡ pick (equal (now (w .entry)) (now (text .entry))) this other ⌝ }
 {
-    if order::is_alike(w, text) {
+    if order::is_equal(w, text) {
         this
     } else {
         other

@@ -14,12 +14,12 @@ use Rattle.units.specs.Refusals.{LITERAL-LARGE}
 use Rattle.text.specs.Bytes.{pick}
 use Rattle.codes.specs.Codes.{NUMBER}
 use Rattle.codes.specs.Found.{found}
-use Rattle.codes.specs.declared.Lexeme.the-variants.{Wrong}
+use Rattle.codes.specs.declared.Scanned.the-variants.{Refused}
 use Rattle.literal.specs.Literal.{digitOf, valueIn, literal}
-use Rattle.literal.specs.Sizes.{baseOf, sized}
+use Rattle.literal.specs.Sizes.{baseOf, bounded}
 use Rattle.literal.specs.declared.Base.{Base}
 use Rattle.literal.specs.declared.Base.the-variants.{Ten, Sixteen}
-use Rattle.literal.specs.declared.Sized.the-variants.{Fits, Large}
+use Rattle.literal.specs.declared.Bounded.the-variants.{Fits, Large}
 
 -- further digits make a number no smaller
 pub value-grows : (base high : ℕ) (s : List ℕ) → 0 < base → high ≤ valueIn base high s
@@ -36,25 +36,25 @@ module _ (base high : ℕ) (s : List ℕ) (i : ℕ) where
   unfolding valueIn
   value-end h = rw (drop-of-length-le s h)
 
-pub sized-fits : (v : ℕ) → v < 2 ^ 64 → sized v ≡ Fits v
-unfolding sized
+pub sized-fits : (v : ℕ) → v < 2 ^ 64 → bounded v ≡ Fits v
+unfolding bounded
 sized-fits v h = rw (lt-ltb v (2 ^ 64) h)
 
-pub sized-large : (v : ℕ) → 2 ^ 64 ≤ v → sized v ≡ Large
-unfolding sized
+pub sized-large : (v : ℕ) → 2 ^ 64 ≤ v → bounded v ≡ Large
+unfolding bounded
 sized-large v h = rw (le-ltb v (2 ^ 64) h)
 
 -- what a size says of its number
-pub fits-sized : (v x : ℕ) → Fits x ≡ sized v → (x ≡ v) × (v < 2 ^ 64)
-unfolding sized
+pub fits-sized : (v x : ℕ) → Fits x ≡ bounded v → (x ≡ v) × (v < 2 ^ 64)
+unfolding bounded
 fits-sized v x e = by (ltb v (2 ^ 64)) refl e
   where
     by : (t : Bool) → ltb v (2 ^ 64) ≡ t → Fits x ≡ pick t (Fits v) Large → (x ≡ v) × (v < 2 ^ 64)
     by true k f = (cc, ltb-true v (2 ^ 64) k)
     by false k f = absurd (let z : _≡_ {A = ℕ} 0 1 = cc in omega arith)
 
-pub large-sized : (v : ℕ) → Large ≡ sized v → 2 ^ 64 ≤ v
-unfolding sized
+pub large-sized : (v : ℕ) → Large ≡ bounded v → 2 ^ 64 ≤ v
+unfolding bounded
 large-sized v e = by (ltb v (2 ^ 64)) refl e
   where
     by : (t : Bool) → ltb v (2 ^ 64) ≡ t → Large ≡ pick t (Fits v) Large → 2 ^ 64 ≤ v
@@ -62,11 +62,11 @@ large-sized v e = by (ltb v (2 ^ 64)) refl e
     by false k f = ltb-false v (2 ^ 64) k
 
 -- a literal by the size of its value
-pub literal-fits : (n v x : ℕ) → Fits x ≡ sized v → found NUMBER n x ≡ literal n v
+pub literal-fits : (n v x : ℕ) → Fits x ≡ bounded v → found NUMBER n x ≡ literal n v
 unfolding literal
 literal-fits n v x e = let f = fits-sized v x e in rw (lt-ltb v (2 ^ 64) (f .1), f .0)
 
-pub literal-large : (n v : ℕ) → Large ≡ sized v → Wrong LITERAL-LARGE ≡ literal n v
+pub literal-large : (n v : ℕ) → Large ≡ bounded v → Refused LITERAL-LARGE ≡ literal n v
 unfolding literal
 literal-large n v e = rw (le-ltb v (2 ^ 64) (large-sized v e))
 

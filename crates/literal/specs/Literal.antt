@@ -10,8 +10,8 @@ use Rattle.text.specs.Runs.{span}
 use Rattle.text.specs.declared.runs.Set.the-variants.{Decimal, Hex}
 use Rattle.codes.specs.Codes.{NUMBER}
 use Rattle.codes.specs.Found.{found}
-use Rattle.codes.specs.declared.Lexeme.{Lexeme}
-use Rattle.codes.specs.declared.Lexeme.the-variants.{Wrong}
+use Rattle.codes.specs.declared.Scanned.{Scanned}
+use Rattle.codes.specs.declared.Scanned.the-variants.{Refused}
 
 -- the value of a digit
 unfoldable pub digitOf : ℕ → ℕ
@@ -27,8 +27,8 @@ valueIn base high [] = high
 valueIn base high (b ∷ s) = valueIn base (high * base + digitOf b) s
 
 -- a number literal of n bytes, which has to be below 2^64
-unfoldable pub literal : ℕ → ℕ → Lexeme
-literal n v = pick (ltb v (2 ^ 64)) (found NUMBER n v) (Wrong LITERAL-LARGE)
+unfoldable pub literal : ℕ → ℕ → Scanned
+literal n v = pick (ltb v (2 ^ 64)) (found NUMBER n v) (Refused LITERAL-LARGE)
 
 -- a run of n bytes is a decimal: `0`, or 1 to 9 and then digits
 unfoldable pub isDecimal : List ℕ → ℕ → Bool
@@ -42,9 +42,9 @@ isHexadecimal s n =
     && (ltb 2 n && eqb (2 + span Hex (drop 2 s)) n))
 
 -- a run of n bytes that is no decimal
-unfoldable pub hexadecimalOf : ℕ → List ℕ → Lexeme
-hexadecimalOf n s = pick (isHexadecimal s n) (literal n (valueIn 16 0 (take (n - 2) (drop 2 s)))) (Wrong TOKEN-BAD)
+unfoldable pub hexadecimalOf : ℕ → List ℕ → Scanned
+hexadecimalOf n s = pick (isHexadecimal s n) (literal n (valueIn 16 0 (take (n - 2) (drop 2 s)))) (Refused TOKEN-BAD)
 
 -- a run of n bytes that starts with a digit
-unfoldable pub numberOf : ℕ → List ℕ → Lexeme
+unfoldable pub numberOf : ℕ → List ℕ → Scanned
 numberOf n s = pick (isDecimal s n) (literal n (valueIn 10 0 (take n s))) (hexadecimalOf n s)

@@ -7,11 +7,11 @@ use units::Offset;
 ghost use mathlib.Core.Path.{_≡_};
 ghost use Prim.Native.Nat.{_+_, _^_, _≤_, _<_};
 ghost use lib.ListN.{length};
-ghost use Rattle.text.specs.Order.{alike};
+ghost use Rattle.text.specs.Order.{equal};
 ghost use Rattle.text.specs.Runs.{span};
-ghost use Rattle.text.specs.declared.runs.Set.the-variants.{Filled};
+ghost use Rattle.text.specs.declared.runs.Set.the-variants.{NonZero};
 ghost use Rattle.settings.specs.Table.{unpadded};
-ghost use Rattle.lookup.specs.Setting.{littleEndian, held, LooksUp};
+ghost use Rattle.lookup.specs.Setting.{littleEndian, settingAt, LooksUp};
 
 // A part of the table: where a string stands.
 pub struct Part {
@@ -28,9 +28,9 @@ pub enum Setting {
 }
 
 // Whether a name without zero bytes is the one in a record's name field.
-fn stands(field: &[u8], name: &[u8]) -> bool
-    requires { ⌜ span Filled (now name) ≡ length (now name) ⌝ }
-    ensures { λ r. ⌜ r ≡ alike (unpadded (now (field .entry))) (now (name .entry)) ⌝ }
+fn has_name(field: &[u8], name: &[u8]) -> bool
+    requires { ⌜ span NonZero (now name) ≡ length (now name) ⌝ }
+    ensures { λ r. ⌜ r ≡ equal (unpadded (now (field .entry))) (now (name .entry)) ⌝ }
 {
     let n = name.len();
     if field.len() < n {
@@ -39,10 +39,10 @@ fn stands(field: &[u8], name: &[u8]) -> bool
     if bytes::byte_at(field, Offset(n)) != 0 {
         return false;
     }
-    order::is_alike(&field[0..n], name)
+    order::is_equal(&field[0..n], name)
 }
 
-fn widened(b: u8) -> u64
+fn as_u64(b: u8) -> u64
     ensures { λ r. ⌜ r ≡ b ⌝ }
     ensures { λ r. ⌜ r ≤ 255 ⌝ }
 {
@@ -54,19 +54,18 @@ fn number_in(r: &[u8]) -> u64
     requires { ⌜ length (now r) ≡ 128 ⌝ }
     ensures { λ v. ⌜ v ≡ littleEndian 8 72 (now (r .entry)) ⌝ }
 {
-    let high = widened(r[76])
-        + 256 * (widened(r[77]) + 256 * (widened(r[78]) + 256 * widened(r[79])));
-    widened(r[72])
-        + 256 * (widened(r[73]) + 256 * (widened(r[74]) + 256 * (widened(r[75]) + 256 * high)))
+    let high = as_u64(r[76]) + 256 * (as_u64(r[77]) + 256 * (as_u64(r[78]) + 256 * as_u64(r[79])));
+    as_u64(r[72])
+        + 256 * (as_u64(r[73]) + 256 * (as_u64(r[74]) + 256 * (as_u64(r[75]) + 256 * high)))
 }
 
 // What a record holds that begins at `at` in the table.
-fn hold(at: Offset, r: &[u8]) -> Setting
+fn setting_at(at: Offset, r: &[u8]) -> Setting
     requires { ⌜ (length (now r) ≡ 128) × (at .0 + 72 < 2 ^ 64) ⌝ }
-    ensures { λ s. ⌜ s ≡ held (at .0) (now (r .entry)) ⌝ }
+    ensures { λ s. ⌜ s ≡ settingAt (at .0) (now (r .entry)) ⌝ }
 {
     let kind = r[64];
-    let len = settings::index(r[65]);
+    let len = settings::as_index(r[65]);
     if 56 < len {
         return Setting::Missing;
     }
@@ -84,15 +83,15 @@ fn hold(at: Offset, r: &[u8]) -> Setting
 pub fn lookup(table: &[u8], name: &[u8]) -> Setting
     ensures { λ r. ⌜ LooksUp (now (table .entry)) (now (name .entry)) r ⌝ }
 {
-    if runs::run_end(name, Offset(0), Set::Filled).0 != name.len() {
+    if runs::run_end(name, Offset(0), Set::NonZero).0 != name.len() {
         return Setting::Missing;
     }
     let mut at = 0;
     while 128 <= table.len() - at {
         let field = at + 64;
         let next = at + 128;
-        if stands(&table[at..field], name) {
-            return hold(Offset(at), &table[at..next]);
+        if has_name(&table[at..field], name) {
+            return setting_at(Offset(at), &table[at..next]);
         }
         at = next;
     }

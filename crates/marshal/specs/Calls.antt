@@ -6,7 +6,7 @@ use lib.ListN.{length}
 use Rattle.units.specs.Refusals.{TABLE-MALFORMED}
 use Rattle.text.specs.Bytes.{pick}
 use Rattle.settings.specs.Table.{wellFormed}
-use Rattle.lookup.specs.Setting.{under}
+use Rattle.lookup.specs.Setting.{settingUnder}
 use Rattle.lookup.specs.declared.Setting.{Setting}
 use Rattle.lookup.specs.declared.Setting.the-variants.{Number, String, Wide, Missing}
 use Rattle.text.specs.Parts.{stored}
@@ -24,7 +24,7 @@ shown Missing = 255 ∷ 0 ∷ 0 ∷ []
 -- a lookup: 0 and what stands under the name, or 1 for a malformed table, and then the array stays as it was
 pub record Shows (t n out : List ℕ) (r : ℕ) (out′ : List ℕ) : Type 0 where
   pub refused : r ≡ pick (wellFormed t) 0 TABLE-MALFORMED
-  pub written : out′ ≡ pick (wellFormed t) (stored (shown (under t n)) out) out
+  pub written : out′ ≡ pick (wellFormed t) (stored (shown (settingUnder t n)) out) out
 
 -- the refusal number of an ending, 0 where nothing was refused
 abbrev pub refusalNumber : Ending → ℕ

@@ -1,6 +1,6 @@
 // The calls on expressions.
 use evaluation::Answer;
-use evaluation::Value;
+use evaluation::AnswerValue;
 use evaluation::outcome;
 use value::Place;
 ghost use mathlib.Core.Path.{_≡_};
@@ -8,7 +8,7 @@ ghost use mathlib.Core.List.{List, [], _∷_};
 ghost use Prim.Native.Nat.{ℕ};
 ghost use Rattle.text.specs.Bytes.{pick};
 ghost use Rattle.text.specs.Parts.{stored};
-ghost use Rattle.evaluation.specs.Evaluation.{value as valued, valueSaid};
+ghost use Rattle.evaluation.specs.Evaluation.{value as valued, denoteAnswerValue};
 ghost use Rattle.marshal.specs.Expressions.{answerShown, Answers};
 
 // A flag as a number.
@@ -45,14 +45,14 @@ fn show_string(out: &mut [u64; 6], kind: u64, place: Place, count: u64)
 }
 
 // Stores a value.
-fn show_value(out: &mut [u64; 6], v: Value, count: usize)
-    ensures { λ r. ⌜ ((e t : List ℕ) → now (out .exit) ≡ stored (answerShown (valued (valueSaid e t v) count)) (now (out .entry))) ⌝ }
+fn show_value(out: &mut [u64; 6], v: AnswerValue, count: usize)
+    ensures { λ r. ⌜ ((e t : List ℕ) → now (out .exit) ≡ stored (answerShown (valued (denoteAnswerValue e t v) count)) (now (out .entry))) ⌝ }
 {
     let n = count as u64;
     match v {
-        Value::Number(x) => show_number(out, x, n),
-        Value::String(p) => show_string(out, 1, p, n),
-        Value::Wide(p) => show_string(out, 2, p, n),
+        AnswerValue::Number(x) => show_number(out, x, n),
+        AnswerValue::String(p) => show_string(out, 1, p, n),
+        AnswerValue::Wide(p) => show_string(out, 2, p, n),
     }
 }
 

@@ -10,18 +10,18 @@ use Rattle.text.specs.Bytes.{pick}
 use Rattle.line.specs.declared.Directive.{Directive}
 use Rattle.line.specs.declared.Directive.the-variants.{Plain, If, Ifdef, Ifndef, Elseif, Else, Endif, Unknown}
 use Rattle.line.specs.declared.Condition.{Condition}
-use Rattle.line.specs.declared.Condition.the-variants.{Holds, Fails, Wrong}
-use Rattle.nesting.specs.Groups.{Group, group, standingOf, closedOf}
-use Rattle.ruling.specs.Standings.{live}
-use Rattle.ruling.specs.Rules.{DROPPED, KEPT, UNREAD, NOT-TAKEN, TAKEN, elseifRuling, elseRuling, endRuling}
-use Rattle.ruling.specs.declared.Standing.{Standing}
-use Rattle.ruling.specs.declared.Standing.the-variants.{Dead, Seeking, Taken}
-use Rattle.ruling.specs.declared.Ruling.{Ruling}
-use Rattle.ruling.specs.declared.Ruling.the-variants.{Stay, Turn, Final, Close, Refuse}
+use Rattle.line.specs.declared.Condition.the-variants.{Holds, Fails, Refused}
+use Rattle.nesting.specs.Groups.{Group, group, stateOf, elseSeenOf}
+use Rattle.ruling.specs.States.{isActive}
+use Rattle.ruling.specs.Rules.{DROPPED, KEPT, UNREAD, NOT-TAKEN, TAKEN, elseifTransition, elseTransition, endTransition}
+use Rattle.ruling.specs.declared.GroupState.{GroupState}
+use Rattle.ruling.specs.declared.GroupState.the-variants.{Skipped, Pending, Active}
+use Rattle.ruling.specs.declared.Transition.{Transition}
+use Rattle.ruling.specs.declared.Transition.the-variants.{Stay, Switch, Else, Pop, Refuse}
 
 -- the most groups that may be open
-abbrev pub MOST-GROUPS : ℕ
-MOST-GROUPS = 16
+abbrev pub MAX-GROUPS : ℕ
+MAX-GROUPS = 16
 
 -- the open groups and how many operators were applied so far
 pub record State : Type 0 where
@@ -37,43 +37,43 @@ pub data Outcome : Type 0 where
   stop : ℕ → Outcome
 
 -- the innermost group changed
-abbrev pub turnTo : Standing → List Group → List Group
-turnTo s [] = []
-turnTo s (group w b n ∷ gs) = group s b n ∷ gs
+abbrev pub switchTo : GroupState → List Group → List Group
+switchTo s [] = []
+switchTo s (group w b n ∷ gs) = group s b n ∷ gs
 
-abbrev pub finalTo : Standing → List Group → List Group
-finalTo s [] = []
-finalTo s (group w b n ∷ gs) = group s true n ∷ gs
+abbrev pub elseTo : GroupState → List Group → List Group
+elseTo s [] = []
+elseTo s (group w b n ∷ gs) = group s true n ∷ gs
 
-abbrev pub closeOne : List Group → List Group
-closeOne [] = []
-closeOne (g ∷ gs) = gs
+abbrev pub pop : List Group → List Group
+pop [] = []
+pop (g ∷ gs) = gs
 
 -- a ruling on the innermost group
-abbrev pub applied : Ruling → (count : ℕ) → List Group → Outcome
+abbrev pub applied : Transition → (count : ℕ) → List Group → Outcome
 applied (Stay m) k gs = go m (state gs k)
-applied (Turn m s) k gs = go m (state (turnTo s gs) k)
-applied (Final m s) k gs = go m (state (finalTo s gs) k)
-applied (Close m) k gs = go m (state (closeOne gs) k)
+applied (Switch m s) k gs = go m (state (switchTo s gs) k)
+applied (Else m s) k gs = go m (state (elseTo s gs) k)
+applied (Pop m) k gs = go m (state (pop gs) k)
 applied (Refuse r) k gs = stop r
 
 -- a new group, opened in line n
-abbrev pub opened : (mark : ℕ) → Standing → (line count : ℕ) → List Group → Outcome
+abbrev pub opened : (mark : ℕ) → GroupState → (line count : ℕ) → List Group → Outcome
 opened m s n k gs = go m (state (group s false n ∷ gs) k)
 
 -- where it is read, by what its condition says
 abbrev pub openedBy : Condition → (line count : ℕ) → List Group → Outcome
-openedBy (Holds c) n k gs = opened TAKEN Taken n k gs
-openedBy (Fails c) n k gs = opened NOT-TAKEN Seeking n k gs
-openedBy (Wrong r) n k gs = stop r
+openedBy (Holds c) n k gs = opened TAKEN Active n k gs
+openedBy (Fails c) n k gs = opened NOT-TAKEN Pending n k gs
+openedBy (Refused r) n k gs = stop r
 
 -- `!if`, `!ifdef` and `!ifndef`: no more than 16 groups are open, live or not
 unfoldable pub opening : Condition → (line count : ℕ) → List Group → Outcome
-opening c n k gs = pick (leb MOST-GROUPS (length gs)) (stop NESTING-DEEP) (pick (live (standingOf gs)) (openedBy c n k gs) (opened UNREAD Dead n k gs))
+opening c n k gs = pick (leb MAX-GROUPS (length gs)) (stop NESTING-DEEP) (pick (isActive (stateOf gs)) (openedBy c n k gs) (opened UNREAD Skipped n k gs))
 
 -- a plain line
 abbrev pub plain : (count : ℕ) → List Group → Outcome
-plain k gs = go (pick (live (standingOf gs)) KEPT DROPPED) (state gs k)
+plain k gs = go (pick (isActive (stateOf gs)) KEPT DROPPED) (state gs k)
 
 -- line n with its directive, what its text says where it is read, and the operators applied up to it
 unfoldable pub decided : Directive → Condition → (line count : ℕ) → List Group → Outcome
@@ -81,7 +81,7 @@ decided Plain c n k gs = plain k gs
 decided If c n k gs = opening c n k gs
 decided Ifdef c n k gs = opening c n k gs
 decided Ifndef c n k gs = opening c n k gs
-decided Elseif c n k gs = applied (elseifRuling c (standingOf gs) (closedOf gs)) k gs
-decided Else c n k gs = applied (elseRuling c (standingOf gs) (closedOf gs)) k gs
-decided Endif c n k gs = applied (endRuling c (standingOf gs)) k gs
+decided Elseif c n k gs = applied (elseifTransition c (stateOf gs) (elseSeenOf gs)) k gs
+decided Else c n k gs = applied (elseTransition c (stateOf gs) (elseSeenOf gs)) k gs
+decided Endif c n k gs = applied (endTransition c (stateOf gs)) k gs
 decided Unknown c n k gs = stop WORD-UNKNOWN

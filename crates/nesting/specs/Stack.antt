@@ -8,32 +8,32 @@ use lib.ListN.{length, getD}
 use lib.Dec.{eqb}
 use Rattle.text.specs.Bytes.{pick}
 use Rattle.nesting.specs.Groups.{Group, group}
-use Rattle.nesting.specs.Decide.{MOST-GROUPS, State, Outcome, go, stop}
-use Rattle.ruling.specs.declared.Standing.{Standing}
-use Rattle.ruling.specs.declared.Standing.the-variants.{Outside, Dead, Seeking, Taken, Past}
+use Rattle.nesting.specs.Decide.{MAX-GROUPS, State, Outcome, go, stop}
+use Rattle.ruling.specs.declared.GroupState.{GroupState}
+use Rattle.ruling.specs.declared.GroupState.the-variants.{NoGroup, Skipped, Pending, Active, Done}
 use Rattle.nesting.specs.declared.Selection.{Selection}
 use Rattle.nesting.specs.declared.Step.{Step}
 
 -- how a group stands, as a number below 8
-abbrev pub standingNumber : Standing → ℕ
-standingNumber Outside = 4
-standingNumber Dead = 0
-standingNumber Seeking = 1
-standingNumber Taken = 2
-standingNumber Past = 3
+abbrev pub stateNumber : GroupState → ℕ
+stateNumber NoGroup = 4
+stateNumber Skipped = 0
+stateNumber Pending = 1
+stateNumber Active = 2
+stateNumber Done = 3
 
 -- with 8 more where its `!else` was met
-abbrev pub entryOf : Standing → Bool → ℕ
-entryOf s b = standingNumber s + pick b 8 0
+abbrev pub entryOf : GroupState → Bool → ℕ
+entryOf s b = stateNumber s + pick b 8 0
 
 -- and back
-unfoldable pub standingIn : ℕ → Standing
-standingIn e =
-    pick (eqb (e % 8) 0) Dead
-    (pick (eqb (e % 8) 1) Seeking
-    (pick (eqb (e % 8) 2) Taken
-    (pick (eqb (e % 8) 3) Past
-    Outside)))
+unfoldable pub stateIn : ℕ → GroupState
+stateIn e =
+    pick (eqb (e % 8) 0) Skipped
+    (pick (eqb (e % 8) 1) Pending
+    (pick (eqb (e % 8) 2) Active
+    (pick (eqb (e % 8) 3) Done
+    NoGroup)))
 
 -- the digits of the open groups in base 16
 abbrev pub packed : List Group → ℕ
@@ -48,9 +48,9 @@ Lined (group s b n ∷ gs) ls = (getD ls (length gs) 0 ≡ n) × Lined gs ls
 -- the code's selection is this state
 pub record Represents (x : Selection) (s : State) : Type 0 where
   pub depth : x .depth ≡ length (s .groups)
-  pub shallow : length (s .groups) ≤ MOST-GROUPS
+  pub shallow : length (s .groups) ≤ MAX-GROUPS
   pub count : x .count ≡ s .count
-  pub standings : x .standings ≡ packed (s .groups)
+  pub states : x .states ≡ packed (s .groups)
   pub lined : Lined (s .groups) (x .lines)
   pub lines-long : length (x .lines) ≡ 16
 

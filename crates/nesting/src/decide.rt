@@ -4,7 +4,7 @@ use crate::Step;
 use crate::stack;
 use line::Condition;
 use line::Directive;
-use ruling::Standing;
+use ruling::GroupState;
 use units::LineNumber;
 ghost use Prim.Native.Nat.{_≤_, _<_};
 ghost use Rattle.nesting.specs.Decide.{State, plain as plainOf, opening, decided};
@@ -20,13 +20,19 @@ fn open_group(c: Condition, n: LineNumber, x: Selection) -> Step
     if 16 <= depth {
         return stack::refused(units::NESTING_DEEP, x);
     }
-    if !ruling::live(stack::standing(x)) {
-        return stack::went(ruling::UNREAD, stack::push(x, Standing::Dead, n));
+    if !ruling::is_active(stack::group_state(x)) {
+        return stack::accepted(ruling::UNREAD, stack::push(x, GroupState::Skipped, n));
     }
     match c {
-        Condition::Holds(_) => stack::went(ruling::TAKEN, stack::push(x, Standing::Taken, n)),
-        Condition::Fails(_) => stack::went(ruling::NOT_TAKEN, stack::push(x, Standing::Seeking, n)),
-        Condition::Wrong(number) => stack::refused(number, x),
+        Condition::Holds(_) => stack::accepted(
+            ruling::TAKEN,
+            stack::push(x, GroupState::Active, n),
+        ),
+        Condition::Fails(_) => stack::accepted(
+            ruling::NOT_TAKEN,
+            stack::push(x, GroupState::Pending, n),
+        ),
+        Condition::Refused(number) => stack::refused(number, x),
     }
 }
 
@@ -35,10 +41,10 @@ fn plain(x: Selection) -> Step
     requires { ⌜ x .depth ≤ 16 ⌝ }
     ensures { λ z. ⌜ ((t : State) → Represents x t → Meets x z (plainOf (t .count) (t .groups))) ⌝ }
 {
-    if ruling::live(stack::standing(x)) {
-        return stack::went(ruling::KEPT, x);
+    if ruling::is_active(stack::group_state(x)) {
+        return stack::accepted(ruling::KEPT, x);
     }
-    stack::went(ruling::DROPPED, x)
+    stack::accepted(ruling::DROPPED, x)
 }
 
 // Line n with its directive and what its text says.
@@ -52,14 +58,14 @@ pub fn decide(d: Directive, c: Condition, n: LineNumber, x: Selection) -> Step
         Directive::Ifdef => open_group(c, n, x),
         Directive::Ifndef => open_group(c, n, x),
         Directive::Elseif => stack::apply(
-            ruling::elseif_ruling(c, stack::standing(x), stack::is_closed(x)),
+            ruling::elseif_transition(c, stack::group_state(x), stack::has_else(x)),
             x,
         ),
         Directive::Else => stack::apply(
-            ruling::else_ruling(c, stack::standing(x), stack::is_closed(x)),
+            ruling::else_transition(c, stack::group_state(x), stack::has_else(x)),
             x,
         ),
-        Directive::Endif => stack::apply(ruling::end_ruling(c, stack::standing(x)), x),
+        Directive::Endif => stack::apply(ruling::end_transition(c, stack::group_state(x)), x),
         Directive::Unknown => stack::refused(units::WORD_UNKNOWN, x),
     }
 }

@@ -9,7 +9,7 @@ pub mod stack;
 pub struct Selection {
     pub depth: usize,
     pub count: usize,
-    pub standings: u64,
+    pub states: u64,
     pub lines: [u16; 16],
 }
 

@@ -1,31 +1,31 @@
 // The open groups of a selection.
 use crate::Selection;
 use crate::Step;
-use ruling::Ruling;
-use ruling::Standing;
+use ruling::GroupState;
+use ruling::Transition;
 use units::LineNumber;
 ghost use mathlib.Core.Path.{_≡_};
 ghost use mathlib.Core.Bool.{false};
 ghost use mathlib.Core.List.{_∷_};
 ghost use Prim.Native.Nat.{_≤_, _<_};
-ghost use Rattle.nesting.specs.Groups.{group, standingOf, closedOf};
-ghost use Rattle.nesting.specs.Decide.{State, state, go, stop, turnTo, finalTo, closeOne, applied};
-ghost use Rattle.nesting.specs.Stack.{standingNumber, entryOf, standingIn, Represents, Meets};
+ghost use Rattle.nesting.specs.Groups.{group, stateOf, elseSeenOf};
+ghost use Rattle.nesting.specs.Decide.{State, state, go, stop, switchTo, elseTo, pop, applied};
+ghost use Rattle.nesting.specs.Stack.{stateNumber, entryOf, stateIn, Represents, Meets};
 
-fn number_of(s: Standing) -> u64
-    ensures { λ r. ⌜ r ≡ standingNumber s ⌝ }
+fn number_of(s: GroupState) -> u64
+    ensures { λ r. ⌜ r ≡ stateNumber s ⌝ }
     ensures { λ r. ⌜ r < 5 ⌝ }
 {
     match s {
-        Standing::Outside => 4,
-        Standing::Dead => 0,
-        Standing::Seeking => 1,
-        Standing::Taken => 2,
-        Standing::Past => 3,
+        GroupState::NoGroup => 4,
+        GroupState::Skipped => 0,
+        GroupState::Pending => 1,
+        GroupState::Active => 2,
+        GroupState::Done => 3,
     }
 }
 
-fn entry(s: Standing, closed: bool) -> u64
+fn entry(s: GroupState, closed: bool) -> u64
     ensures { λ r. ⌜ r ≡ entryOf s closed ⌝ }
     ensures { λ r. ⌜ r < 16 ⌝ }
 {
@@ -33,88 +33,88 @@ fn entry(s: Standing, closed: bool) -> u64
     if closed { n + 8 } else { n }
 }
 
-fn standing_in(entry: u64) -> Standing
-    ensures { λ r. ⌜ r ≡ standingIn entry ⌝ }
+fn state_in(entry: u64) -> GroupState
+    ensures { λ r. ⌜ r ≡ stateIn entry ⌝ }
 {
     let n = entry % 8;
     match n {
-        0 => Standing::Dead,
-        1 => Standing::Seeking,
-        2 => Standing::Taken,
-        3 => Standing::Past,
-        _ => Standing::Outside,
+        0 => GroupState::Skipped,
+        1 => GroupState::Pending,
+        2 => GroupState::Active,
+        3 => GroupState::Done,
+        _ => GroupState::NoGroup,
     }
 }
 
 // How the innermost group stands.
-pub fn standing(x: Selection) -> Standing
+pub fn group_state(x: Selection) -> GroupState
     requires { ⌜ x .depth ≤ 16 ⌝ }
-    ensures { λ r. ⌜ ((s : State) → Represents x s → r ≡ standingOf (s .groups)) ⌝ }
+    ensures { λ r. ⌜ ((s : State) → Represents x s → r ≡ stateOf (s .groups)) ⌝ }
 {
     let n = x.depth;
     if n == 0 {
-        return Standing::Outside;
+        return GroupState::NoGroup;
     }
-    standing_in(x.standings % 16)
+    state_in(x.states % 16)
 }
 
 // Whether its `!else` was met.
-pub fn is_closed(x: Selection) -> bool
+pub fn has_else(x: Selection) -> bool
     requires { ⌜ x .depth ≤ 16 ⌝ }
-    ensures { λ r. ⌜ ((s : State) → Represents x s → r ≡ closedOf (s .groups)) ⌝ }
+    ensures { λ r. ⌜ ((s : State) → Represents x s → r ≡ elseSeenOf (s .groups)) ⌝ }
 {
     let n = x.depth;
     if n == 0 {
         return false;
     }
-    8 <= x.standings % 16
+    8 <= x.states % 16
 }
 
 // 16^15: what 15 open groups have as their digits is below it.
 const BELOW_TOP: u64 = 1152921504606846976;
 
 // A group opened in a line.
-pub fn push(x: Selection, s: Standing, line: LineNumber) -> Selection
+pub fn push(x: Selection, s: GroupState, line: LineNumber) -> Selection
     requires { ⌜ (x .depth < 16) × (line .0 < 65536) ⌝ }
     ensures { λ r. ⌜ ((t : State) → Represents x t → Represents r (state (group s false (line .0) ∷ t .groups) (t .count))) ⌝ }
 {
     let n = x.depth;
     let mut y = x;
-    y.standings = x.standings % BELOW_TOP * 16 + entry(s, false);
+    y.states = x.states % BELOW_TOP * 16 + entry(s, false);
     y.lines[n] = line.0 as u16;
     y.depth = n + 1;
     y
 }
 
-fn turn(x: Selection, s: Standing) -> Selection
+fn set_state(x: Selection, s: GroupState) -> Selection
     requires { ⌜ x .depth ≤ 16 ⌝ }
-    ensures { λ r. ⌜ ((t : State) → Represents x t → Represents r (state (turnTo s (t .groups)) (t .count))) ⌝ }
+    ensures { λ r. ⌜ ((t : State) → Represents x t → Represents r (state (switchTo s (t .groups)) (t .count))) ⌝ }
 {
     let n = x.depth;
     if n == 0 {
         return x;
     }
-    let closed = is_closed(x);
+    let closed = has_else(x);
     let mut y = x;
-    y.standings = x.standings / 16 * 16 + entry(s, closed);
+    y.states = x.states / 16 * 16 + entry(s, closed);
     y
 }
 
-fn close_with(x: Selection, s: Standing) -> Selection
+fn enter_else(x: Selection, s: GroupState) -> Selection
     requires { ⌜ x .depth ≤ 16 ⌝ }
-    ensures { λ r. ⌜ ((t : State) → Represents x t → Represents r (state (finalTo s (t .groups)) (t .count))) ⌝ }
+    ensures { λ r. ⌜ ((t : State) → Represents x t → Represents r (state (elseTo s (t .groups)) (t .count))) ⌝ }
 {
     let n = x.depth;
     if n == 0 {
         return x;
     }
     let mut y = x;
-    y.standings = x.standings / 16 * 16 + entry(s, true);
+    y.states = x.states / 16 * 16 + entry(s, true);
     y
 }
 
 fn pop(x: Selection) -> Selection
-    ensures { λ r. ⌜ ((t : State) → Represents x t → Represents r (state (closeOne (t .groups)) (t .count))) ⌝ }
+    ensures { λ r. ⌜ ((t : State) → Represents x t → Represents r (state (pop (t .groups)) (t .count))) ⌝ }
 {
     let n = x.depth;
     if n == 0 {
@@ -122,12 +122,12 @@ fn pop(x: Selection) -> Selection
     }
     let mut y = x;
     y.depth = n - 1;
-    y.standings = x.standings / 16;
+    y.states = x.states / 16;
     y
 }
 
 // A line that is marked so, with the selection after it.
-pub fn went(mark: u8, next: Selection) -> Step
+pub fn accepted(mark: u8, next: Selection) -> Step
     ensures { λ r. ⌜ ((x : Selection) (t : State) → Represents next t → Meets x r (go mark t)) ⌝ }
 {
     Step {
@@ -151,15 +151,15 @@ pub fn refused(number: u8, x: Selection) -> Step
 }
 
 // A ruling on the innermost group.
-pub fn apply(r: Ruling, x: Selection) -> Step
+pub fn apply(r: Transition, x: Selection) -> Step
     requires { ⌜ x .depth ≤ 16 ⌝ }
     ensures { λ z. ⌜ ((t : State) → Represents x t → Meets x z (applied r (t .count) (t .groups))) ⌝ }
 {
     match r {
-        Ruling::Stay(mark) => went(mark, x),
-        Ruling::Turn(mark, s) => went(mark, turn(x, s)),
-        Ruling::Final(mark, s) => went(mark, close_with(x, s)),
-        Ruling::Close(mark) => went(mark, pop(x)),
-        Ruling::Refuse(number) => refused(number, x),
+        Transition::Stay(mark) => accepted(mark, x),
+        Transition::Switch(mark, s) => accepted(mark, set_state(x, s)),
+        Transition::Else(mark, s) => accepted(mark, enter_else(x, s)),
+        Transition::Pop(mark) => accepted(mark, pop(x)),
+        Transition::Refuse(number) => refused(number, x),
     }
 }

@@ -7,8 +7,8 @@ use mathlib.Core.List.{List, [], _∷_}
 use lib.ListN.{length, set, length-set}
 use lib.Seq.{getD-set-same, getD-set-other}
 use Rattle.value.specs.Attributes.{Attributes}
-use Rattle.value.specs.declared.Known.{Known}
-use Rattle.value.specs.Denote.{known}
+use Rattle.value.specs.declared.Attributes.{Attributes as CodedAttributes}
+use Rattle.value.specs.Denote.{denoteAttributes}
 use Rattle.operands.specs.Numbers.{operandIn}
 use Rattle.operands.specs.Stack.{operandAt, piled, Leaves}
 
@@ -29,7 +29,8 @@ module _ (e t : List ℕ) where
   pile-set w j x (suc h) l = rw (getD-set-other w j h x [] (λ q. omega (arith, q)), pile-set w j x h (omega arith))
 
   -- an operand stored above the first j
-  pub stored : (w : List (List ℕ)) (j : ℕ) (x : List ℕ) (a : Known) → operandIn x ≡ a → j < length w → Leaves e t w j (known e t a) (set w j x)
+  pub stored : (w : List (List ℕ)) (j : ℕ) (x : List ℕ) (a : CodedAttributes) → operandIn x ≡ a → j < length w → Leaves e t w j
+      (denoteAttributes e t a) (set w j x)
   unfolding piled
   stored w j x a q l =
       record {

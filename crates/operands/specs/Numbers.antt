@@ -7,9 +7,9 @@ use Rattle.text.specs.Bytes.{pick}
 use Rattle.value.specs.declared.Kind.{Kind}
 use Rattle.value.specs.declared.Kind.the-variants.{Number as NumberKind, String as StringKind, Wide as WideKind, Clash}
 use Rattle.value.specs.declared.Place.{Place}
-use Rattle.value.specs.declared.Held.{Held}
-use Rattle.value.specs.declared.Held.the-variants.{Number, String, Wide, Fault}
-use Rattle.value.specs.declared.Known.{Known}
+use Rattle.value.specs.declared.Value.{Value as CodedValue}
+use Rattle.value.specs.declared.Value.the-variants.{Number, String, Wide, Fault}
+use Rattle.value.specs.declared.Attributes.{Attributes as CodedAttributes}
 use Rattle.operands.specs.declared.numbers.Shaped.{Shaped}
 
 abbrev pub kindIn : ℕ → Kind
@@ -20,14 +20,14 @@ abbrev pub placeIn : Shaped → Place
 placeIn s = record { tabled = s .tabled; start = record { 0 = s .first }; len = s .len }
 
 -- a value by its shape: 0 a number, 1 a string, 2 a wide string, any other a fault
-abbrev pub valueIn : Shaped → Held
+abbrev pub valueIn : Shaped → CodedValue
 valueIn s =
     pick (eqb (s .shape) 0) (Number (s .first))
     (pick (eqb (s .shape) 1) (String (placeIn s))
     (pick (eqb (s .shape) 2) (Wide (placeIn s)) (Fault (pick (ltb (s .first) 256) (s .first) 0))))
 
 -- kind, shape, number or start, length, whether in the table, count of operators, whether a PCD is missing
-abbrev pub operandIn : List ℕ → Known
+abbrev pub operandIn : List ℕ → CodedAttributes
 operandIn w =
     record {
       kind = kindIn (getD w 0 0);

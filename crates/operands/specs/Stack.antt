@@ -4,12 +4,12 @@ use mathlib.Core.Path.{_≡_}
 use mathlib.Core.List.{List, [], _∷_}
 use lib.ListN.{length, getD}
 use Rattle.value.specs.Attributes.{Attributes}
-use Rattle.value.specs.Denote.{known}
+use Rattle.value.specs.Denote.{denoteAttributes}
 use Rattle.operands.specs.Numbers.{operandIn}
 
 -- an operand of the stack w, over an expression e and a table t, and its count of operators
 abbrev pub operandAt : (e t : List ℕ) → List (List ℕ) → ℕ → Attributes
-operandAt e t w i = known e t (operandIn (getD w i []))
+operandAt e t w i = denoteAttributes e t (operandIn (getD w i []))
 
 abbrev pub countAt : List (List ℕ) → ℕ → ℕ
 countAt w i = operandIn (getD w i []) .count

@@ -1,9 +1,9 @@
 // An operand as seven numbers, so that memory for operands can be lent.
 use units::Offset;
-use value::Held;
+use value::Attributes;
 use value::Kind;
-use value::Known;
 use value::Place;
+use value::Value;
 ghost use mathlib.Core.Path.{_≡_};
 ghost use lib.Dec.{eqb, ltb};
 ghost use Rattle.text.specs.Bytes.{pick};
@@ -58,19 +58,19 @@ fn shape_of_string(shape: usize, p: Place) -> Shaped
     }
 }
 
-fn shape_of(v: Held) -> Shaped
+fn shape_of(v: Value) -> Shaped
     ensures { λ r. ⌜ valueIn r ≡ v ⌝ }
 {
     match v {
-        Held::Number(x) => Shaped {
+        Value::Number(x) => Shaped {
             shape: 0,
             first: x as usize,
             len: 0,
             tabled: false,
         },
-        Held::String(p) => shape_of_string(1, p),
-        Held::Wide(p) => shape_of_string(2, p),
-        Held::Fault(number) => Shaped {
+        Value::String(p) => shape_of_string(1, p),
+        Value::Wide(p) => shape_of_string(2, p),
+        Value::Fault(number) => Shaped {
             shape: 3,
             first: number as usize,
             len: 0,
@@ -86,7 +86,7 @@ fn fault_in(n: usize) -> u8
     if n < 256 { n as u8 } else { 0 }
 }
 
-fn value_in(s: Shaped) -> Held
+fn value_in(s: Shaped) -> Value
     ensures { λ r. ⌜ r ≡ valueIn s ⌝ }
 {
     let p = Place {
@@ -96,14 +96,14 @@ fn value_in(s: Shaped) -> Held
     };
     let shape = s.shape;
     match shape {
-        0 => Held::Number(s.first as u64),
-        1 => Held::String(p),
-        2 => Held::Wide(p),
-        _ => Held::Fault(fault_in(s.first)),
+        0 => Value::Number(s.first as u64),
+        1 => Value::String(p),
+        2 => Value::Wide(p),
+        _ => Value::Fault(fault_in(s.first)),
     }
 }
 
-pub fn encode(a: Known) -> [usize; 7]
+pub fn encode(a: Attributes) -> [usize; 7]
     ensures { λ r. ⌜ operandIn r ≡ a ⌝ }
 {
     let kind = a.kind;
@@ -120,7 +120,7 @@ pub fn encode(a: Known) -> [usize; 7]
     ]
 }
 
-pub fn decode(w: [usize; 7]) -> Known
+pub fn decode(w: [usize; 7]) -> Attributes
     ensures { λ r. ⌜ r ≡ operandIn w ⌝ }
 {
     let s = Shaped {
@@ -131,7 +131,7 @@ pub fn decode(w: [usize; 7]) -> Known
     };
     let kind = kind_in(w[0]);
     let value = value_in(s);
-    Known {
+    Attributes {
         kind,
         value,
         count: w[5],

@@ -1,27 +1,27 @@
 // The stack of operands. Each operator takes its operands, the first of them at `at`, and leaves its result in their place.
 use crate::numbers;
-use value::Known;
-use value::attributes;
+use value::Attributes;
+use value::forms;
 ghost use mathlib.Core.Path.{_≡_};
 ghost use mathlib.Core.List.{List, []};
 ghost use Prim.Native.Nat.{ℕ, _+_, _≤_, _<_};
 ghost use lib.ListN.{length, getD};
 ghost use Rattle.value.specs.Attributes.{unaryFrom, binaryFrom, choiceFrom};
-ghost use Rattle.value.specs.Denote.{known};
+ghost use Rattle.value.specs.Denote.{denoteAttributes};
 ghost use Rattle.operands.specs.Numbers.{operandIn};
 ghost use Rattle.operands.specs.Stack.{countAt, operandAt, Leaves};
 
 // The operand at a place.
-pub fn load(waiting: &[[usize; 7]], at: usize) -> Known
+pub fn load(waiting: &[[usize; 7]], at: usize) -> Attributes
     requires { ⌜ at < length (now waiting) ⌝ }
     ensures { λ r. ⌜ r ≡ operandIn (getD (now (waiting .entry)) at []) ⌝ }
 {
     numbers::decode(waiting[at])
 }
 
-pub fn store(waiting: &mut [[usize; 7]], at: usize, a: Known)
+pub fn store(waiting: &mut [[usize; 7]], at: usize, a: Attributes)
     requires { ⌜ at < length (now waiting) ⌝ }
-    ensures { λ r. ⌜ ((e t : List ℕ) → Leaves e t (now (waiting .entry)) at (known e t a) (now (waiting .exit))) ⌝ }
+    ensures { λ r. ⌜ ((e t : List ℕ) → Leaves e t (now (waiting .entry)) at (denoteAttributes e t a) (now (waiting .exit))) ⌝ }
 {
     waiting[at] = numbers::encode(a);
 }
@@ -31,7 +31,7 @@ pub fn unary(waiting: &mut [[usize; 7]], at: usize, o: u8)
     ensures { λ r. ⌜ ((e t : List ℕ) → Leaves e t (now (waiting .entry)) at (unaryFrom o (operandAt e t (now (waiting .entry)) at)) (now (waiting .exit))) ⌝ }
 {
     let a = load(waiting, at);
-    store(waiting, at, attributes::of_unary(o, a));
+    store(waiting, at, forms::of_unary(o, a));
 }
 
 pub fn binary<'a>(waiting: &mut [[usize; 7]], at: usize, expr: &'a [u8], table: &'a [u8], o: u8)
@@ -40,7 +40,7 @@ pub fn binary<'a>(waiting: &mut [[usize; 7]], at: usize, expr: &'a [u8], table: 
 {
     let a = load(waiting, at);
     let b = load(waiting, at + 1);
-    store(waiting, at, attributes::of_binary(expr, table, o, a, b));
+    store(waiting, at, forms::of_binary(expr, table, o, a, b));
 }
 
 pub fn choice(waiting: &mut [[usize; 7]], at: usize)
@@ -50,5 +50,5 @@ pub fn choice(waiting: &mut [[usize; 7]], at: usize)
     let c = load(waiting, at);
     let a = load(waiting, at + 1);
     let b = load(waiting, at + 2);
-    store(waiting, at, attributes::of_choice(c, a, b));
+    store(waiting, at, forms::of_choice(c, a, b));
 }

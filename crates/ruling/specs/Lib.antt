@@ -1,2 +1,2 @@
-pub mod Standings
+pub mod States
 pub mod Rules

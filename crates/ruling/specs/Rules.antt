@@ -5,11 +5,11 @@ use mathlib.Core.Bool.{Bool}
 use Rattle.units.specs.Refusals.{DIRECTIVE-STRAY}
 use Rattle.text.specs.Bytes.{pick}
 use Rattle.line.specs.declared.Condition.{Condition}
-use Rattle.line.specs.declared.Condition.the-variants.{Holds, Fails, Wrong}
-use Rattle.ruling.specs.declared.Standing.{Standing}
-use Rattle.ruling.specs.declared.Standing.the-variants.{Outside, Dead, Seeking, Taken, Past}
-use Rattle.ruling.specs.declared.Ruling.{Ruling}
-use Rattle.ruling.specs.declared.Ruling.the-variants.{Stay, Turn, Final, Close, Refuse}
+use Rattle.line.specs.declared.Condition.the-variants.{Holds, Fails, Refused}
+use Rattle.ruling.specs.declared.GroupState.{GroupState}
+use Rattle.ruling.specs.declared.GroupState.the-variants.{NoGroup, Skipped, Pending, Active, Done}
+use Rattle.ruling.specs.declared.Transition.{Transition}
+use Rattle.ruling.specs.declared.Transition.the-variants.{Stay, Switch, Else, Pop, Refuse}
 
 -- the marks of lines: a plain line that is dropped or kept; a directive that is not read; one that is read and whose branch is not taken,
 -- or is; a read `!endif`
@@ -32,45 +32,45 @@ abbrev pub ENDED : ℕ
 ENDED = 5
 
 -- a text that is wrong is refused
-abbrev pub unless : Condition → Ruling → Ruling
+abbrev pub unless : Condition → Transition → Transition
 unless (Holds n) r = r
 unless (Fails n) r = r
-unless (Wrong k) r = Refuse k
+unless (Refused k) r = Refuse k
 
 -- a read `!elseif`
-abbrev pub turned : Condition → Ruling
-turned (Holds n) = Turn TAKEN Taken
-turned (Fails n) = Stay NOT-TAKEN
-turned (Wrong k) = Refuse k
+abbrev pub afterElseif : Condition → Transition
+afterElseif (Holds n) = Switch TAKEN Active
+afterElseif (Fails n) = Stay NOT-TAKEN
+afterElseif (Refused k) = Refuse k
 
 -- an `!elseif` by how its group stands, which has to be open
-abbrev pub elseifIn : Condition → Standing → Ruling
-elseifIn c Outside = Refuse DIRECTIVE-STRAY
-elseifIn c Dead = Stay UNREAD
-elseifIn c Seeking = turned c
-elseifIn c Taken = Turn UNREAD Past
-elseifIn c Past = Stay UNREAD
+abbrev pub elseifIn : Condition → GroupState → Transition
+elseifIn c NoGroup = Refuse DIRECTIVE-STRAY
+elseifIn c Skipped = Stay UNREAD
+elseifIn c Pending = afterElseif c
+elseifIn c Active = Switch UNREAD Done
+elseifIn c Done = Stay UNREAD
 
 -- and whose `!else` was not met
-unfoldable pub elseifRuling : Condition → Standing → (closed : Bool) → Ruling
-elseifRuling c s closed = pick closed (Refuse DIRECTIVE-STRAY) (elseifIn c s)
+unfoldable pub elseifTransition : Condition → GroupState → (closed : Bool) → Transition
+elseifTransition c s closed = pick closed (Refuse DIRECTIVE-STRAY) (elseifIn c s)
 
 -- an `!else`, likewise
-abbrev pub elseIn : Condition → Standing → Ruling
-elseIn c Outside = Refuse DIRECTIVE-STRAY
-elseIn c Dead = Final UNREAD Dead
-elseIn c Seeking = unless c (Final TAKEN Taken)
-elseIn c Taken = unless c (Final NOT-TAKEN Past)
-elseIn c Past = unless c (Final NOT-TAKEN Past)
+abbrev pub elseIn : Condition → GroupState → Transition
+elseIn c NoGroup = Refuse DIRECTIVE-STRAY
+elseIn c Skipped = Else UNREAD Skipped
+elseIn c Pending = unless c (Else TAKEN Active)
+elseIn c Active = unless c (Else NOT-TAKEN Done)
+elseIn c Done = unless c (Else NOT-TAKEN Done)
 
 -- a second one is stray too
-unfoldable pub elseRuling : Condition → Standing → (closed : Bool) → Ruling
-elseRuling c s closed = pick closed (Refuse DIRECTIVE-STRAY) (elseIn c s)
+unfoldable pub elseTransition : Condition → GroupState → (closed : Bool) → Transition
+elseTransition c s closed = pick closed (Refuse DIRECTIVE-STRAY) (elseIn c s)
 
 -- an `!endif` needs an open group
-unfoldable pub endRuling : Condition → Standing → Ruling
-endRuling c Outside = Refuse DIRECTIVE-STRAY
-endRuling c Dead = Close UNREAD
-endRuling c Seeking = unless c (Close ENDED)
-endRuling c Taken = unless c (Close ENDED)
-endRuling c Past = unless c (Close ENDED)
+unfoldable pub endTransition : Condition → GroupState → Transition
+endTransition c NoGroup = Refuse DIRECTIVE-STRAY
+endTransition c Skipped = Pop UNREAD
+endTransition c Pending = unless c (Pop ENDED)
+endTransition c Active = unless c (Pop ENDED)
+endTransition c Done = unless c (Pop ENDED)

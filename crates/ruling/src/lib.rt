@@ -2,30 +2,30 @@
 use line::Condition;
 use line::Directive;
 ghost use mathlib.Core.Path.{_≡_};
-ghost use Rattle.ruling.specs.Standings.{live as liveOf, around as aroundOf, seeking as seekingOf, reads as readsOf};
-ghost use Rattle.ruling.specs.Rules.{unless as unlessOf, turned as turnedBy, elseifRuling, elseRuling, endRuling};
+ghost use Rattle.ruling.specs.States.{isActive, isEnclosedLive, isPending, reads as readsOf};
+ghost use Rattle.ruling.specs.Rules.{unless as unlessOf, afterElseif, elseifTransition, elseTransition, endTransition};
 
 // How an open group stands, or that none is open.
-pub enum Standing {
+pub enum GroupState {
     // no group is open
-    Outside,
+    NoGroup,
     // the branch around the group is not taken
-    Dead,
+    Skipped,
     // it is, and no branch of the group was taken so far
-    Seeking,
+    Pending,
     // the present branch is taken
-    Taken,
+    Active,
     // an earlier branch was taken
-    Past,
+    Done,
 }
 
 // What a line makes of the innermost group, with the line's mark, or the number of the refusal.
-pub enum Ruling {
+pub enum Transition {
     Stay(u8),
-    Turn(u8, Standing),
+    Switch(u8, GroupState),
     // an `!else`: the group's last branch begins
-    Final(u8, Standing),
-    Close(u8),
+    Else(u8, GroupState),
+    Pop(u8),
     Refuse(u8),
 }
 
@@ -42,117 +42,117 @@ pub const TAKEN: u8 = 4;
 pub const ENDED: u8 = 5;
 
 // Whether all branches around a place are taken.
-pub fn live(s: Standing) -> bool
-    ensures { λ r. ⌜ r ≡ liveOf s ⌝ }
+pub fn is_active(s: GroupState) -> bool
+    ensures { λ r. ⌜ r ≡ isActive s ⌝ }
 {
     match s {
-        Standing::Outside => true,
-        Standing::Dead => false,
-        Standing::Seeking => false,
-        Standing::Taken => true,
-        Standing::Past => false,
+        GroupState::NoGroup => true,
+        GroupState::Skipped => false,
+        GroupState::Pending => false,
+        GroupState::Active => true,
+        GroupState::Done => false,
     }
 }
 
-fn around(s: Standing) -> bool
-    ensures { λ r. ⌜ r ≡ aroundOf s ⌝ }
+fn is_enclosed_live(s: GroupState) -> bool
+    ensures { λ r. ⌜ r ≡ isEnclosedLive s ⌝ }
 {
     match s {
-        Standing::Outside => false,
-        Standing::Dead => false,
-        Standing::Seeking => true,
-        Standing::Taken => true,
-        Standing::Past => true,
+        GroupState::NoGroup => false,
+        GroupState::Skipped => false,
+        GroupState::Pending => true,
+        GroupState::Active => true,
+        GroupState::Done => true,
     }
 }
 
-fn seeking(s: Standing) -> bool
-    ensures { λ r. ⌜ r ≡ seekingOf s ⌝ }
+fn is_pending(s: GroupState) -> bool
+    ensures { λ r. ⌜ r ≡ isPending s ⌝ }
 {
     match s {
-        Standing::Outside => false,
-        Standing::Dead => false,
-        Standing::Seeking => true,
-        Standing::Taken => false,
-        Standing::Past => false,
+        GroupState::NoGroup => false,
+        GroupState::Skipped => false,
+        GroupState::Pending => true,
+        GroupState::Active => false,
+        GroupState::Done => false,
     }
 }
 
 // Whether a directive is read where the innermost group stands so.
-pub fn reads(d: Directive, s: Standing) -> bool
+pub fn reads(d: Directive, s: GroupState) -> bool
     ensures { λ r. ⌜ r ≡ readsOf d s ⌝ }
 {
     match d {
         Directive::Plain => false,
-        Directive::If => live(s),
-        Directive::Ifdef => live(s),
-        Directive::Ifndef => live(s),
-        Directive::Elseif => seeking(s),
-        Directive::Else => around(s),
-        Directive::Endif => around(s),
+        Directive::If => is_active(s),
+        Directive::Ifdef => is_active(s),
+        Directive::Ifndef => is_active(s),
+        Directive::Elseif => is_pending(s),
+        Directive::Else => is_enclosed_live(s),
+        Directive::Endif => is_enclosed_live(s),
         Directive::Unknown => false,
     }
 }
 
 // A ruling, unless the text is wrong.
-fn unless(c: Condition, r: Ruling) -> Ruling
+fn unless(c: Condition, r: Transition) -> Transition
     ensures { λ z. ⌜ z ≡ unlessOf c r ⌝ }
 {
     match c {
         Condition::Holds(_) => r,
         Condition::Fails(_) => r,
-        Condition::Wrong(number) => Ruling::Refuse(number),
+        Condition::Refused(number) => Transition::Refuse(number),
     }
 }
 
-fn turned(c: Condition) -> Ruling
-    ensures { λ r. ⌜ r ≡ turnedBy c ⌝ }
+fn after_elseif(c: Condition) -> Transition
+    ensures { λ r. ⌜ r ≡ afterElseif c ⌝ }
 {
     match c {
-        Condition::Holds(_) => Ruling::Turn(TAKEN, Standing::Taken),
-        Condition::Fails(_) => Ruling::Stay(NOT_TAKEN),
-        Condition::Wrong(number) => Ruling::Refuse(number),
+        Condition::Holds(_) => Transition::Switch(TAKEN, GroupState::Active),
+        Condition::Fails(_) => Transition::Stay(NOT_TAKEN),
+        Condition::Refused(number) => Transition::Refuse(number),
     }
 }
 
-pub fn elseif_ruling(c: Condition, s: Standing, closed: bool) -> Ruling
-    ensures { λ r. ⌜ r ≡ elseifRuling c s closed ⌝ }
+pub fn elseif_transition(c: Condition, s: GroupState, closed: bool) -> Transition
+    ensures { λ r. ⌜ r ≡ elseifTransition c s closed ⌝ }
 {
     if closed {
-        return Ruling::Refuse(units::DIRECTIVE_STRAY);
+        return Transition::Refuse(units::DIRECTIVE_STRAY);
     }
     match s {
-        Standing::Outside => Ruling::Refuse(units::DIRECTIVE_STRAY),
-        Standing::Dead => Ruling::Stay(UNREAD),
-        Standing::Seeking => turned(c),
-        Standing::Taken => Ruling::Turn(UNREAD, Standing::Past),
-        Standing::Past => Ruling::Stay(UNREAD),
+        GroupState::NoGroup => Transition::Refuse(units::DIRECTIVE_STRAY),
+        GroupState::Skipped => Transition::Stay(UNREAD),
+        GroupState::Pending => after_elseif(c),
+        GroupState::Active => Transition::Switch(UNREAD, GroupState::Done),
+        GroupState::Done => Transition::Stay(UNREAD),
     }
 }
 
-pub fn else_ruling(c: Condition, s: Standing, closed: bool) -> Ruling
-    ensures { λ r. ⌜ r ≡ elseRuling c s closed ⌝ }
+pub fn else_transition(c: Condition, s: GroupState, closed: bool) -> Transition
+    ensures { λ r. ⌜ r ≡ elseTransition c s closed ⌝ }
 {
     if closed {
-        return Ruling::Refuse(units::DIRECTIVE_STRAY);
+        return Transition::Refuse(units::DIRECTIVE_STRAY);
     }
     match s {
-        Standing::Outside => Ruling::Refuse(units::DIRECTIVE_STRAY),
-        Standing::Dead => Ruling::Final(UNREAD, Standing::Dead),
-        Standing::Seeking => unless(c, Ruling::Final(TAKEN, Standing::Taken)),
-        Standing::Taken => unless(c, Ruling::Final(NOT_TAKEN, Standing::Past)),
-        Standing::Past => unless(c, Ruling::Final(NOT_TAKEN, Standing::Past)),
+        GroupState::NoGroup => Transition::Refuse(units::DIRECTIVE_STRAY),
+        GroupState::Skipped => Transition::Else(UNREAD, GroupState::Skipped),
+        GroupState::Pending => unless(c, Transition::Else(TAKEN, GroupState::Active)),
+        GroupState::Active => unless(c, Transition::Else(NOT_TAKEN, GroupState::Done)),
+        GroupState::Done => unless(c, Transition::Else(NOT_TAKEN, GroupState::Done)),
     }
 }
 
-pub fn end_ruling(c: Condition, s: Standing) -> Ruling
-    ensures { λ r. ⌜ r ≡ endRuling c s ⌝ }
+pub fn end_transition(c: Condition, s: GroupState) -> Transition
+    ensures { λ r. ⌜ r ≡ endTransition c s ⌝ }
 {
     match s {
-        Standing::Outside => Ruling::Refuse(units::DIRECTIVE_STRAY),
-        Standing::Dead => Ruling::Close(UNREAD),
-        Standing::Seeking => unless(c, Ruling::Close(ENDED)),
-        Standing::Taken => unless(c, Ruling::Close(ENDED)),
-        Standing::Past => unless(c, Ruling::Close(ENDED)),
+        GroupState::NoGroup => Transition::Refuse(units::DIRECTIVE_STRAY),
+        GroupState::Skipped => Transition::Pop(UNREAD),
+        GroupState::Pending => unless(c, Transition::Pop(ENDED)),
+        GroupState::Active => unless(c, Transition::Pop(ENDED)),
+        GroupState::Done => unless(c, Transition::Pop(ENDED)),
     }
 }

@@ -1,8 +1,8 @@
-pub mod Underway
+pub mod RunInvariant
 pub mod Steps
 pub mod Filled
-pub mod Ends
-pub mod Turns
-pub mod Before
-pub mod Whole
-pub mod Marked
+pub mod FinishCorrect
+pub mod RunBounds
+pub mod LimitsCorrect
+pub mod SelectCorrect
+pub mod MarksEachLine

@@ -14,60 +14,62 @@ use Rattle.text.proofs.Laws.{pick-case}
 use Rattle.line.specs.Directives.{directiveOf, textOf}
 use Rattle.line.specs.declared.Directive.{Directive}
 use Rattle.line.specs.declared.Directive.the-variants.{Plain}
-use Rattle.condition.specs.Conditions.{says, countOf}
+use Rattle.condition.specs.Conditions.{evaluate, countOf}
 use Rattle.line.specs.declared.Condition.{Condition}
 use Rattle.line.specs.declared.Condition.the-variants.{Fails}
 use Rattle.condition.proofs.Counts.{count-small}
-use Rattle.nesting.specs.Groups.{standingOf}
+use Rattle.nesting.specs.Groups.{stateOf}
 use Rattle.text.specs.Bytes.{pick}
-use Rattle.ruling.specs.Standings.{reads, live}
-use Rattle.ruling.specs.declared.Standing.{Standing}
+use Rattle.ruling.specs.States.{reads, isActive}
+use Rattle.ruling.specs.declared.GroupState.{GroupState}
 use Rattle.ruling.specs.Rules.{KEPT, DROPPED}
 use Rattle.nesting.specs.Decide.{State, Outcome, go, stop, decided}
 use Rattle.nesting.specs.Stack.{Meets}
 use Rattle.nesting.specs.declared.Selection.{Selection}
 use Rattle.nesting.specs.declared.Step.{Step}
 use Rattle.nesting.proofs.Decided.{Counts, decided-counts}
-use Rattle.select.specs.Step.{heard, step}
+use Rattle.select.specs.Step.{readCondition, step}
 
 -- a directive that is read is not plain
-pub other-read : (d : Directive) (v : Standing) → reads d v ≡ true → d ≡ Plain → ⊥
+pub other-read : (d : Directive) (v : GroupState) → reads d v ≡ true → d ≡ Plain → ⊥
 unfolding reads
 other-read d v h e = let k : false ≡ true = rw e at h in false≢true k
 
 module _ (t : List ℕ) (n : ℕ) (s : State) (l : List ℕ) where
   -- whether a line is read, by what the code knows of its head and of the innermost group
-  pub read-as : (d : Directive) (v : Standing) (b : Bool) → d ≡ directiveOf l → v ≡ standingOf (s .groups) → reads d v ≡ b
-      → reads (directiveOf l) (standingOf (s .groups)) ≡ b
+  pub read-as : (d : Directive) (v : GroupState) (b : Bool) → d ≡ directiveOf l → v ≡ stateOf (s .groups) → reads d v ≡ b
+      → reads (directiveOf l) (stateOf (s .groups)) ≡ b
   read-as d v b e k h = rw (← e, ← k) h
 
   pub long-step : 1024 < length l → step t n s l ≡ stop LINE-LONG
   unfolding step
   long-step h = rw (lt-ltb 1024 (length l) h)
 
-  pub decided-step : length l ≤ 1024 → step t n s l ≡ decided (directiveOf l) (heard t (s .groups) l) n (s .count + countOf (heard t (s .groups) l)) (s .groups)
+  pub decided-step : length l ≤ 1024 → step t n s l ≡ decided (directiveOf l) (readCondition t (s .groups) l) n
+      (s .count + countOf (readCondition t (s .groups) l)) (s .groups)
   unfolding step
   decided-step h = rw (le-ltb 1024 (length l) h)
 
-  pub unread-step : length l ≤ 1024 → reads (directiveOf l) (standingOf (s .groups)) ≡ false
+  pub unread-step : length l ≤ 1024 → reads (directiveOf l) (stateOf (s .groups)) ≡ false
       → step t n s l ≡ decided (directiveOf l) (Fails 0) n (s .count) (s .groups)
-  unfolding heard
+  unfolding readCondition
   unread-step h r = decided-step h ∙ rw (r, add-zero (s .count))
 
   -- a plain line leaves the state
-  pub plain-step : length l ≤ 1024 → directiveOf l ≡ Plain → step t n s l ≡ go (pick (live (standingOf (s .groups))) KEPT DROPPED) s
+  pub plain-step : length l ≤ 1024 → directiveOf l ≡ Plain → step t n s l ≡ go (pick (isActive (stateOf (s .groups))) KEPT DROPPED) s
   unfolding decided reads
   plain-step h e = unread-step h (rw e) ∙ rw e
 
-  pub read-step : length l ≤ 1024 → reads (directiveOf l) (standingOf (s .groups)) ≡ true
-      → step t n s l ≡ decided (directiveOf l) (says t (directiveOf l) (textOf l)) n (s .count + countOf (says t (directiveOf l) (textOf l))) (s .groups)
-  unfolding heard
+  pub read-step : length l ≤ 1024 → reads (directiveOf l) (stateOf (s .groups)) ≡ true
+      → step t n s l ≡ decided (directiveOf l) (evaluate t (directiveOf l) (textOf l)) n
+      (s .count + countOf (evaluate t (directiveOf l) (textOf l))) (s .groups)
+  unfolding readCondition
   read-step h r = decided-step h ∙ rw r
 
-  heard-small : countOf (heard t (s .groups) l) < 200
-  unfolding heard
-  heard-small =
-      pick-case (λ (c : Condition). countOf c < 200) (reads (directiveOf l) (standingOf (s .groups)))
+  read-condition-small : countOf (readCondition t (s .groups) l) < 200
+  unfolding readCondition
+  read-condition-small =
+      pick-case (λ (c : Condition). countOf c < 200) (reads (directiveOf l) (stateOf (s .groups)))
       (λ _. count-small t (directiveOf l) (textOf l)) (λ _. omega arith)
 
   -- a step's count, if it has one
@@ -75,15 +77,15 @@ module _ (t : List ℕ) (n : ℕ) (s : State) (l : List ℕ) where
   Small (go m s′) = s′ .count < s .count + 200
   Small (stop r) = Unit
 
-  counts-small : (o : Outcome) → Counts (s .count + countOf (heard t (s .groups) l)) o → Small o
+  counts-small : (o : Outcome) → Counts (s .count + countOf (readCondition t (s .groups) l)) o → Small o
   unfolding Small
-  counts-small (go m s′) e = omega (arith, e, heard-small)
+  counts-small (go m s′) e = omega (arith, e, read-condition-small)
   counts-small (stop r) e = tt
 
   step-is-small : Small (step t n s l)
   unfolding step Small
   step-is-small =
-      let c = heard t (s .groups) l in
+      let c = readCondition t (s .groups) l in
       let k = s .count + countOf c in
       pick-case Small (ltb 1024 (length l)) (λ _. tt)
       (λ _. counts-small (decided (directiveOf l) c n k (s .groups)) (decided-counts (directiveOf l) c n k (s .groups)))

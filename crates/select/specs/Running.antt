@@ -8,13 +8,13 @@ use Rattle.units.specs.Refusals.{FILE-UNFINISHED}
 use Rattle.settings.specs.Table.{wellFormed}
 use Rattle.line.specs.Lines.{lines}
 use Rattle.text.specs.Bytes.{pick}
-use Rattle.ruling.specs.Standings.{live}
+use Rattle.ruling.specs.States.{isActive}
 use Rattle.ruling.specs.Rules.{KEPT, DROPPED}
-use Rattle.nesting.specs.Groups.{Group, group, standingOf}
+use Rattle.nesting.specs.Groups.{Group, group, stateOf}
 use Rattle.nesting.specs.Decide.{State}
 use Rattle.nesting.specs.Stack.{Represents}
 use Rattle.nesting.specs.declared.Selection.{Selection}
-use Rattle.select.specs.Select.{MOST-LINES, accepted, refused, run, start, selection, answerOf}
+use Rattle.select.specs.Select.{MAX-LINES, accepted, refused, run, start, selection, answerOf}
 use Rattle.select.specs.declared.Answer.{Answer}
 use Rattle.select.specs.declared.Answer.the-variants.{Accepted, Refused}
 
@@ -25,7 +25,7 @@ ends n (group s b l ∷ gs) c = Refused (record { number = FILE-UNFINISHED; line
 
 -- the mark of a plain line in the code's selection x
 abbrev pub MarksPlain : (x : Selection) → (mark : ℕ) → Type 0
-MarksPlain x mark = (s : State) → Represents x s → mark ≡ pick (live (standingOf (s .groups))) KEPT DROPPED
+MarksPlain x mark = (s : State) → Represents x s → mark ≡ pick (isActive (stateOf (s .groups))) KEPT DROPPED
 
 -- what a run over all lines gives, and the marks that it leaves where it is accepted
 pub record Runs (f t marks : List ℕ) (r : Answer) (marks′ : List ℕ) : Type 0 where
@@ -33,13 +33,13 @@ pub record Runs (f t marks : List ℕ) (r : Answer) (marks′ : List ℕ) : Type
   pub marked : (ms : List ℕ) (c : ℕ) → run t 1 start (lines f) ≡ accepted ms c → marks′ ≡ ms ++ drop (length ms) marks
 
 -- what is asked before any line was passed: then the run over the lines is the selection
-pub record Fit (f t : List ℕ) (room : ℕ) : Type 0 where
+pub record WithinLimits (f t : List ℕ) (room : ℕ) : Type 0 where
   pub sound : wellFormed t ≡ true
-  pub few : length (lines f) ≤ MOST-LINES
+  pub few : length (lines f) ≤ MAX-LINES
   pub enough : length (lines f) ≤ room
   pub runs : selection f t room ≡ run t 1 start (lines f)
 
 -- r is the number of the refusal before any line, 0 where there is none
-pub record Unfit (f t : List ℕ) (room r : ℕ) : Type 0 where
+pub record ChecksLimits (f t : List ℕ) (room r : ℕ) : Type 0 where
   pub refuses : (r ≡ 0 → ⊥) → selection f t room ≡ refused r 0
-  pub passes : r ≡ 0 → Fit f t room
+  pub passes : r ≡ 0 → WithinLimits f t room

@@ -17,11 +17,11 @@ use Rattle.select.specs.declared.Answer.{Answer}
 use Rattle.select.specs.declared.Answer.the-variants.{Accepted, Refused}
 
 -- the most bytes and the most lines of a file
-abbrev pub MOST-FILE : ℕ
-MOST-FILE = 65536
+abbrev pub MAX-FILE : ℕ
+MAX-FILE = 65536
 
-abbrev pub MOST-LINES : ℕ
-MOST-LINES = 4096
+abbrev pub MAX-LINES : ℕ
+MAX-LINES = 4096
 
 -- the marks of the lines and the sum of counts, or a refusal's number and line
 pub data Result : Type 0 where
@@ -56,8 +56,8 @@ start = state [] 0
 unfoldable pub selection : (f t : List ℕ) → (room : ℕ) → Result
 selection f t room =
     pick (wellFormed t)
-    (pick (ltb MOST-FILE (length f)) (refused FILE-LONG 0)
-    (pick (ltb MOST-LINES (length (lines f))) (refused LINES-MANY 0)
+    (pick (ltb MAX-FILE (length f)) (refused FILE-LONG 0)
+    (pick (ltb MAX-LINES (length (lines f))) (refused LINES-MANY 0)
     (pick (ltb room (length (lines f))) (refused MARKS-SHORT 0)
     (run t 1 start (lines f)))))
     (refused TABLE-MALFORMED 0)

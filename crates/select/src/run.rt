@@ -25,7 +25,7 @@ fn fresh() -> Selection
     Selection {
         depth: 0,
         count: 0,
-        standings: 0,
+        states: 0,
         lines: [0; 16],
     }
 }

@@ -5,28 +5,28 @@ use crate::run;
 use line::cut;
 use units::LineNumber;
 ghost use Rattle.select.specs.Select.{Selects};
-ghost use Rattle.select.specs.Running.{Unfit};
+ghost use Rattle.select.specs.Running.{ChecksLimits};
 
 // The most bytes and the most lines of a file.
-const MOST_FILE: usize = 65536;
+const MAX_FILE: usize = 65536;
 
-const MOST_LINES: usize = 4096;
+const MAX_LINES: usize = 4096;
 
 // What a refusal leaves in every mark.
 const REFUSED: u8 = 255;
 
 // The refusals that belong to no line, 0 where there is none.
-fn unfit<'a>(file: &'a [u8], table: &'a [u8], room: usize) -> u8
-    ensures { λ r. ⌜ Unfit (now (file .entry)) (now (table .entry)) room r ⌝ }
+fn check_limits<'a>(file: &'a [u8], table: &'a [u8], room: usize) -> u8
+    ensures { λ r. ⌜ ChecksLimits (now (file .entry)) (now (table .entry)) room r ⌝ }
 {
     if !settings::is_well_formed(table) {
         return units::TABLE_MALFORMED;
     }
-    if MOST_FILE < file.len() {
+    if MAX_FILE < file.len() {
         return units::FILE_LONG;
     }
     let n = cut::count(file);
-    if MOST_LINES < n.0 {
+    if MAX_LINES < n.0 {
         return units::LINES_MANY;
     }
     if room < n.0 {
@@ -39,7 +39,7 @@ fn unfit<'a>(file: &'a [u8], table: &'a [u8], room: usize) -> u8
 pub fn select<'a>(marks: &mut [u8], file: &'a [u8], table: &'a [u8]) -> Answer
     ensures { λ r. ⌜ Selects (now (file .entry)) (now (table .entry)) (now (marks .entry)) r (now (marks .exit)) ⌝ }
 {
-    let number = unfit(file, table, marks.len());
+    let number = check_limits(file, table, marks.len());
     if number != 0 {
         fill::fill(marks, REFUSED);
         return run::refused(number, LineNumber(0));

@@ -21,7 +21,7 @@ ghost use Rattle.select.specs.Step.{step as stepOf};
 ghost use Rattle.select.specs.Running.{MarksPlain};
 
 // The most bytes of a line without its end.
-const MOST_LINE: usize = 1024;
+const MAX_LINE: usize = 1024;
 
 // The operators that a condition applied.
 fn count_of(c: Condition) -> usize
@@ -30,7 +30,7 @@ fn count_of(c: Condition) -> usize
     match c {
         Condition::Holds(n) => n,
         Condition::Fails(n) => n,
-        Condition::Wrong(_) => 0,
+        Condition::Refused(_) => 0,
     }
 }
 
@@ -49,7 +49,7 @@ pub fn is_passed(d: Directive, len: usize) -> bool
     ensures { λ r. ⌜ (r ≡ true → (len ≤ 1024) × (d ≡ Plain)) ⌝ }
 {
     match d {
-        Directive::Plain => len <= MOST_LINE,
+        Directive::Plain => len <= MAX_LINE,
         _ => false,
     }
 }
@@ -59,7 +59,7 @@ pub fn plain_mark(x: Selection) -> u8
     requires { ⌜ x .depth ≤ 16 ⌝ }
     ensures { λ r. ⌜ MarksPlain x r ⌝ }
 {
-    if ruling::live(stack::standing(x)) {
+    if ruling::is_active(stack::group_state(x)) {
         ruling::KEPT
     } else {
         ruling::DROPPED
@@ -71,15 +71,15 @@ pub fn step<'a>(table: &'a [u8], n: LineNumber, x: Selection, line: &'a [u8], he
     requires { ⌜ (wellFormed (now table) ≡ true) × (n .0 < 65536) × (x .depth ≤ 16) × (x .count < 2 ^ 63) × ReadsHead (now line) head ⌝ }
     ensures { λ z. ⌜ ((s : State) → Represents x s → Meets x z (stepOf (now (table .entry)) (n .0) s (now (line .entry)))) ⌝ }
 {
-    if MOST_LINE < line.len() {
+    if MAX_LINE < line.len() {
         return stack::refused(units::LINE_LONG, x);
     }
     let d = head.directive;
-    if !ruling::reads(d, stack::standing(x)) {
+    if !ruling::reads(d, stack::group_state(x)) {
         return decide::unread(d, n, x);
     }
     let from = head.text;
-    let c = condition::says(table, d, word::text(line, from));
+    let c = condition::evaluate(table, d, word::text(line, from));
     let z = decide::decide(d, c, n, counted(x, count_of(c)));
     let ok = z.ok;
     if ok {

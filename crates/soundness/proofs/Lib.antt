@@ -1,4 +1,4 @@
-pub mod Settled
+pub mod KindSound
 pub mod Results
-pub mod Unplaced
+pub mod ErasePlaces
 pub mod Named

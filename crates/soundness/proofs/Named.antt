@@ -8,7 +8,7 @@ use lib.Dec.{eqb}
 use borrow.Author.Tests.{eqb-true}
 use Rattle.text.proofs.Laws.{pick-both}
 use Rattle.codes.specs.Codes.{STRING, WIDE, MACRO, PCD}
-use Rattle.lookup.specs.Setting.{under}
+use Rattle.lookup.specs.Setting.{settingUnder}
 use Rattle.lookup.specs.Records.{recordUnder, Content, number as holds, string as holdsString, wide as holdsWide, missing, contentIn, contentOf}
 use Rattle.lookup.specs.declared.Setting.{Setting}
 use Rattle.lookup.specs.declared.Setting.the-variants.{Number, String, Wide, Missing}
@@ -16,7 +16,7 @@ use Rattle.lookup.proofs.Records.{under-content}
 use Rattle.token.specs.Tokens.{Token}
 use Rattle.value.specs.Values.{Value, number, string, wide, fault, kindOf, inExpression, settingIn, nameIn, Naming, primaryValue, isMissing, missingPcd}
 use Rattle.value.specs.Attributes.{primaryOf}
-use Rattle.soundness.proofs.Unplaced.{unplaced, unplacedAttributes}
+use Rattle.soundness.proofs.ErasePlaces.{erasePlaces, erasePlacesOf}
 
 -- a record's content as a value, and whether there is no record
 given : Content → Value
@@ -31,7 +31,7 @@ none (holdsString s) = false
 none (holdsWide s) = false
 none missing = true
 
-setting-given : (t : List ℕ) (s : Setting) → unplaced (settingIn t s) ≡ given (contentIn t s)
+setting-given : (t : List ℕ) (s : Setting) → erasePlaces (settingIn t s) ≡ given (contentIn t s)
 unfolding given
 setting-given t (Number x) = refl
 setting-given t (String p) = refl
@@ -45,22 +45,22 @@ setting-none t (String p) = refl
 setting-none t (Wide p) = refl
 setting-none t Missing = refl
 
-kind-unplaced : (v : Value) → kindOf (unplaced v) ≡ kindOf v
-kind-unplaced (number x) = refl
-kind-unplaced (string p s) = refl
-kind-unplaced (wide p s) = refl
-kind-unplaced (fault n) = refl
+kind-erased : (v : Value) → kindOf (erasePlaces v) ≡ kindOf v
+kind-erased (number x) = refl
+kind-erased (string p s) = refl
+kind-erased (wide p s) = refl
+kind-erased (fault n) = refl
 
 -- two tables with the same record under a name
 module _ (t u n : List ℕ) (same : recordUnder t n ≡ recordUnder u n) where
-  same-content : contentIn t (under t n) ≡ contentIn u (under u n)
+  same-content : contentIn t (settingUnder t n) ≡ contentIn u (settingUnder u n)
   same-content = under-content t n ∙ ap contentOf same ∙ sym (under-content u n)
 
-  same-setting : unplaced (settingIn t (under t n)) ≡ unplaced (settingIn u (under u n))
-  same-setting = setting-given t (under t n) ∙ ap given same-content ∙ sym (setting-given u (under u n))
+  same-setting : erasePlaces (settingIn t (settingUnder t n)) ≡ erasePlaces (settingIn u (settingUnder u n))
+  same-setting = setting-given t (settingUnder t n) ∙ ap given same-content ∙ sym (setting-given u (settingUnder u n))
 
-  same-missing : isMissing (under t n) ≡ isMissing (under u n)
-  same-missing = setting-none t (under t n) ∙ ap none same-content ∙ sym (setting-none u (under u n))
+  same-missing : isMissing (settingUnder t n) ≡ isMissing (settingUnder u n)
+  same-missing = setting-none t (settingUnder t n) ∙ ap none same-content ∙ sym (setting-none u (settingUnder u n))
 
 module _ (e t u : List ℕ) (k : Token) (same : Naming k → recordUnder t (nameIn e k) ≡ recordUnder u (nameIn e k)) where
   naming : (m p : Bool) → eqb (k .code) MACRO ≡ m → eqb (k .code) PCD ≡ p → (m || p) ≡ true → Naming k
@@ -69,7 +69,7 @@ module _ (e t u : List ℕ) (k : Token) (same : Naming k → recordUnder t (name
   naming false false i j h = absurd (false≢true h)
 
   abbrev Same : Value → Value → Type 0
-  Same v w = unplaced v ≡ unplaced w
+  Same v w = erasePlaces v ≡ erasePlaces w
 
   same-value : Same (primaryValue e t k) (primaryValue e u k)
   unfolding primaryValue
@@ -81,15 +81,15 @@ module _ (e t u : List ℕ) (k : Token) (same : Naming k → recordUnder t (name
       (λ _. refl)))
 
   same-kind : kindOf (primaryValue e t k) ≡ kindOf (primaryValue e u k)
-  same-kind = sym (kind-unplaced (primaryValue e t k)) ∙ ap kindOf same-value ∙ kind-unplaced (primaryValue e u k)
+  same-kind = sym (kind-erased (primaryValue e t k)) ∙ ap kindOf same-value ∙ kind-erased (primaryValue e u k)
 
   same-missing-pcd : missingPcd e t k ≡ missingPcd e u k
   unfolding missingPcd
   same-missing-pcd = by (eqb (k .code) PCD) refl
     where
-      by : (p : Bool) → eqb (k .code) PCD ≡ p → (p && isMissing (under t (nameIn e k))) ≡ (p && isMissing (under u (nameIn e k)))
+      by : (p : Bool) → eqb (k .code) PCD ≡ p → (p && isMissing (settingUnder t (nameIn e k))) ≡ (p && isMissing (settingUnder u (nameIn e k)))
       by true h = same-missing t u (nameIn e k) (same (inr (eqb-true (k .code) PCD h)))
       by false h = refl
 
-  pub primary-unplaced : unplacedAttributes (primaryOf e t k) ≡ unplacedAttributes (primaryOf e u k)
-  primary-unplaced = rw (same-kind, same-value, same-missing-pcd)
+  pub primary-erased : erasePlacesOf (primaryOf e t k) ≡ erasePlacesOf (primaryOf e u k)
+  primary-erased = rw (same-kind, same-value, same-missing-pcd)

@@ -10,15 +10,15 @@ use Rattle.value.specs.declared.Kind.{Kind}
 use Rattle.value.specs.declared.Kind.the-variants.{Number, String, Wide, Clash}
 
 -- the refusals that evaluation itself meets
-abbrev pub Late : ℕ → Type 0
-Late n = (n ≡ RESULT-RANGE) ⊎ (n ≡ DIVISOR-ZERO)
+abbrev pub RuntimeRefusal : ℕ → Type 0
+RuntimeRefusal n = (n ≡ RESULT-RANGE) ⊎ (n ≡ DIVISOR-ZERO)
 
 -- a value of a kind, or such a refusal
-abbrev pub Suits : Kind → Value → Type 0
-Suits k (number x) = k ≡ Number
-Suits k (string p s) = k ≡ String
-Suits k (wide p s) = k ≡ Wide
-Suits k (fault n) = Late n
+abbrev pub HasKind : Kind → Value → Type 0
+HasKind k (number x) = k ≡ Number
+HasKind k (string p s) = k ≡ String
+HasKind k (wide p s) = k ≡ Wide
+HasKind k (fault n) = RuntimeRefusal n
 
-abbrev pub Settles : Attributes → Type 0
-Settles a = (a .kind ≡ Clash → ⊥) → Suits (a .kind) (a .value)
+abbrev pub KindSound : Attributes → Type 0
+KindSound a = (a .kind ≡ Clash → ⊥) → HasKind (a .kind) (a .value)

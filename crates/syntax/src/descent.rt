@@ -9,7 +9,7 @@ ghost use mathlib.Core.Bool.{false};
 ghost use Prim.Native.Nat.{_+_, _-_, _≤_, _<_};
 ghost use lib.ListN.{set, length};
 ghost use Rattle.codes.specs.Levels.{isUnary};
-ghost use Rattle.grammar.specs.Grammar.{level as levelAt, expression as wholeAt};
+ghost use Rattle.grammar.specs.Grammar.{level as levelAt, expression};
 ghost use Rattle.grammar.specs.Parse.{find};
 ghost use Rattle.syntax.specs.Order.{codeAt, WritesPostfix};
 ghost use Rattle.syntax.specs.Descent.{Fit, Appends, Run, AppendsRun};
@@ -70,7 +70,7 @@ fn whole(
     i: TokenNumber,
 ) -> usize
     requires { ⌜ Fit (n .0) (i .0) (now filled) (now order) ⌝ }
-    ensures { λ r. ⌜ Appends (now (codes .entry)) (n .0) (find wholeAt (i .0)) (i .0) (now (filled .entry)) (now (order .entry)) r (now (filled .exit)) (now (order .exit)) ⌝ }
+    ensures { λ r. ⌜ Appends (now (codes .entry)) (n .0) (find expression (i .0)) (i .0) (now (filled .entry)) (now (order .entry)) r (now (filled .exit)) (now (order .exit)) ⌝ }
 {
     let c = level(order, filled, codes, n, 12, i);
     if BAD <= c {

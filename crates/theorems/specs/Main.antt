@@ -21,11 +21,11 @@ use Rattle.grammar.specs.Parse.{Reads, parse, accepted as parsed, refused as un
 use Rattle.grammar.proofs.Decided.{unambiguous, bounded, evaluates}
 use Rattle.grammar.proofs.Bars.{bars-seen}
 use Rattle.value.specs.Values.{Value, kindOf}
-use Rattle.soundness.specs.Settled.{Suits}
+use Rattle.soundness.specs.Settled.{HasKind}
 use Rattle.value.specs.declared.Kind.the-variants.{Clash}
 use Rattle.expression.specs.Meaning.{codeOf, meaning as attributes}
-use Rattle.evaluation.specs.Evaluation.{value, refused as refusedWhole, refusedWith, lineOf, judged, evaluation}
-use Rattle.answers.specs.Answers.{Stands}
+use Rattle.evaluation.specs.Evaluation.{value, refused as refusedWhole, refusedWith, lineOf, checkThenAnswer, evaluation}
+use Rattle.answers.specs.Answers.{InBounds}
 use Rattle.answers.proofs.Answered.{unread, exact, counted}
 use Rattle.answers.proofs.Placed.{placed}
 use Rattle.answers.proofs.LineZero.{without-line}
@@ -33,7 +33,7 @@ use Rattle.line.specs.Lines.{lines}
 use Rattle.select.specs.Select.{accepted, refused, run, start, selection, Selects}
 use Rattle.select.specs.declared.Answer.{Answer}
 use Rattle.select.specs.declared.Answer.the-variants.{Accepted}
-use Rattle.select.proofs.Marked.{marks-each-line}
+use Rattle.select.proofs.MarksEachLine.{marks-each-line}
 use Rattle.blocks.specs.Blocks.{Blocks, Derives as DerivesBlocks, depth}
 use Rattle.blocks.specs.Meaning.{means, fault, meaning}
 use Rattle.blocks.specs.Reading.{readsOf}
@@ -73,26 +73,26 @@ no-derivation e t sound complete = exact e t sound complete .underived
 -- Else the tree decides: 8 for a bar outside parentheses, then 9 and 10, else the value and the count that the tree folds to.
 pub tree-decides : (e t : List ℕ) → wellFormed t ≡ true → reading e .ending ≡ Complete
     → (s : Tree Token) (d : Derives codeOf expression (reading e .tokens) s)
-    → evaluation e t ≡ judged (bare codeOf d) (fold (attributes e t) s)
+    → evaluation e t ≡ checkThenAnswer (bare codeOf d) (fold (attributes e t) s)
 tree-decides e t sound complete = exact e t sound complete .derived
 
 -- Where the kinds in a tree suit each other, its value is of the tree's kind, or evaluation met 11 or 12.
 pub kinds-settle : (e t : List ℕ) → wellFormed t ≡ true → reading e .ending ≡ Complete
-    → (s : Tree Token) → (fold (attributes e t) s .kind ≡ Clash → ⊥) → Suits (fold (attributes e t) s .kind) (fold (attributes e t) s .value)
-kinds-settle e t sound complete = exact e t sound complete .settles
+    → (s : Tree Token) → (fold (attributes e t) s .kind ≡ Clash → ⊥) → HasKind (fold (attributes e t) s .kind) (fold (attributes e t) s .value)
+kinds-settle e t sound complete = exact e t sound complete .kind-sound
 
 -- So a value that is answered is of the tree's kind, whatever was skipped.
 pub value-has-its-kind : (e t : List ℕ) → wellFormed t ≡ true → reading e .ending ≡ Complete
     → (s : Tree Token) → Derives codeOf expression (reading e .tokens) s
     → (v : Value) (n : ℕ) → evaluation e t ≡ value v n → kindOf v ≡ fold (attributes e t) s .kind
-value-has-its-kind e t sound complete = exact e t sound complete .settled
+value-has-its-kind e t sound complete = exact e t sound complete .value-kind
 
 -- With a value, fewer operators were applied than the expression has tokens.
 pub count-below-tokens : (e t : List ℕ) (v : Value) (n : ℕ) → evaluation e t ≡ value v n → n < length (reading e .tokens)
 count-below-tokens = counted
 
 -- A string that is answered has the bytes at its place, and the place lies within the expression or the table.
-pub string-at-its-place : (e t : List ℕ) (v : Value) (n : ℕ) → evaluation e t ≡ value v n → Stands e t v
+pub string-at-its-place : (e t : List ℕ) (v : Value) (n : ℕ) → evaluation e t ≡ value v n → InBounds e t v
 string-at-its-place = placed
 
 -- The answer to an expression has line 0, also where it is a refusal; so has the answer of a data field.

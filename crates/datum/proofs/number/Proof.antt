@@ -30,8 +30,11 @@ refused-requires-3 : tie.Need-refused-requires-3
 refused-requires-3 c κs = search needs
 
 returns-3 : tie.Need-returns-3
-returns-3 c = let a = c .before .before .before .before .before .before .args in
-    refuses (a .buffer .now) (rw (le-ltb _ _ (c .before .before .before .before .if1 .left), ne-eqb _ _ (c .before .before .before .if2 .left), le-leb (limitOf (a .datum)) (a .x) (omega arith))) (c .refused3 .ensures)
+returns-3 c =
+    let if2 = c .before .before .before .if2 in
+    let if1 = c .before .before .before .before .if1 in
+    let a = c .before .before .before .before .before .before .args in
+    refuses (a .buffer .now) (rw (le-ltb _ _ (if1 .left), ne-eqb _ _ (if2 .left), le-leb (limitOf (a .datum)) (a .x) (omega arith))) (c .refused3 .ensures)
 
 width-of-requires : tie.Need-width-of-requires
 width-of-requires c κs = search needs
@@ -40,8 +43,14 @@ refused-requires-4 : tie.Need-refused-requires-4
 refused-requires-4 c κs = search needs
 
 returns-4 : tie.Need-returns-4
-returns-4 c = let a = c .before .before .before .before .before .before .before .before .args in
-    short (a .buffer .now) (number-fits (a .datum) (a .x) (c .before .before .before .before .before .before .if1 .left) (c .before .before .before .before .before .if2 .left) (c .before .before .before .before .most-of .ensures) (c .before .before .before .if3 .left)) (omega (arith, low-length (widthOf (a .datum)) (a .x))) (c .refused4 .ensures)
+returns-4 c =
+    let if3 = c .before .before .before .if3 in
+    let most-of = c .before .before .before .before .most-of in
+    let if2 = c .before .before .before .before .before .if2 in
+    let if1 = c .before .before .before .before .before .before .if1 in
+    let a = c .before .before .before .before .before .before .before .before .args in
+    short (a .buffer .now) (number-fits (a .datum) (a .x) (if1 .left) (if2 .left) (most-of .ensures) (if3 .left))
+    (omega (arith, low-length (widthOf (a .datum)) (a .x))) (c .refused4 .ensures)
 
 put-number-requires : tie.Need-put-number-requires
 put-number-requires c κs = search needs
@@ -50,10 +59,18 @@ same-length : tie.Need-same-length
 same-length c = search needs
 
 returns-5 : tie.Need-returns-5
-returns-5 c = let a = c .before .before .before .before .before .before .before .before .before .before .before .args in
-    let w = c .before .before .before .before .before .width-of .ensures in
+returns-5 c =
+    let put-number = c .before .before .put-number in
+    let width-of = c .before .before .before .before .before .width-of in
+    let if3 = c .before .before .before .before .before .before .if3 in
+    let most-of = c .before .before .before .before .before .before .before .most-of in
+    let if2 = c .before .before .before .before .before .before .before .before .if2 in
+    let if1 = c .before .before .before .before .before .before .before .before .before .if1 in
+    let a = c .before .before .before .before .before .before .before .before .before .before .before .args in
+    let w = width-of .ensures in
     let n = low-length (widthOf (a .datum)) (a .x) in
-    stores (a .buffer .now) (number-fits (a .datum) (a .x) (c .before .before .before .before .before .before .before .before .before .if1 .left) (c .before .before .before .before .before .before .before .before .if2 .left) (c .before .before .before .before .before .before .before .most-of .ensures) (c .before .before .before .before .before .before .if3 .left)) (omega arith) (w ∙ sym n) (c .before .before .put-number .ensures ∙ rw w)
+    stores (a .buffer .now) (number-fits (a .datum) (a .x) (if1 .left) (if2 .left) (most-of .ensures) (if3 .left)) (omega arith) (w ∙ sym n)
+    (put-number .ensures ∙ rw w)
 
 pub number-spec : {M : Type 1} → statement M
 number-spec =

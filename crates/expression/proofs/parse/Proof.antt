@@ -9,8 +9,8 @@ use Rattle.grammar.specs.Grammar.{expression}
 use Rattle.grammar.specs.Parse.{Result, got, find, Yields}
 use Rattle.syntax.specs.Order.{OrderTo}
 use Rattle.value.specs.Attributes.{Attributes}
-use Rattle.value.specs.declared.Known.{Known}
-use Rattle.value.specs.Denote.{known}
+use Rattle.value.specs.declared.Attributes.{Attributes as CodedAttributes}
+use Rattle.value.specs.Denote.{denoteAttributes}
 use Rattle.expression.specs.Meaning.{codeOf, meaning}
 use Rattle.expression.specs.Parsing.{tokenAt}
 use Rattle.expression.specs.Postfix.{Input, Foldable, Folds}
@@ -45,7 +45,7 @@ module _ (s : tie.Start) (most m j : ℕ) (o : List ℕ) (w : OrderTo (input s .
       record { ready = s .pre; all = w .most; long = w .long; value = v .0; gives = v .1 }
 
   -- what it leaves is what the parser makes
-  folded : (z : Known) → Folds (input s) most o m z → Parsing s (got (known (input s .e) (input s .t) z) j)
+  folded : (z : CodedAttributes) → Folds (input s) most o m z → Parsing s (got (denoteAttributes (input s .e) (input s .t) z) j)
   folded z f =
       let l = length-take-le m o (omega (arith, w .most, w .long)) in
       come (input s) most (s .pre .holding .few) (take m o) j (omega (arith, l, w .most)) (omega (arith, l)) (w .made) z f
@@ -71,11 +71,12 @@ fold-requires c κs =
 
 returns : tie.Need-returns
 returns c =
+    let if1 = c .before .before .before .before .if1 in
     let order = c .before .before .before .before .before .before in
     let write = order .before .before .write-postfix in
     let start = order .before .before .before .before .before .before .before .before .before in
     let written = rw (order .filled .given .1) at (write .ensures) in
-    let short = c .before .before .before .before .if1 .taken in
+    let short = if1 .taken in
     folded start 16 _ _ (write .last .0) written (omega (arith, short)) (c .before .fold .result) (c .before .fold .ensures)
 
 slice-aggregate-fold-2 : tie.Need-slice-aggregate-fold-2

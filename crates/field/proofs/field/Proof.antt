@@ -41,7 +41,8 @@ wide-requires c κs = search needs
 returns : tie.Need-returns
 unfolding fieldOf
 returns c =
-    let a = rw (c .before .answer .given .1) at (c .before .before .before .evaluate .ensures) in
+    let evaluate = c .before .before .before .evaluate in
+    let a = rw (c .before .answer .given .1) at (evaluate .ensures) in
     rw (← a) (record { answer = refl; buffer = refl })
 
 same-length : tie.Need-same-length
@@ -50,8 +51,12 @@ same-length c = search needs
 returns-2 : tie.Need-returns-2
 unfolding fieldOf
 returns-2 c =
-    let a = rw (c .before .before .before .before .before .before .before .before .answer2 .given .1, c .before .before .before .before .before .v .given .1) at (c .before .before .before .before .before .before .before .before .before .before .evaluate .ensures) in
-    rw (← a) (c .before .before .number .ensures)
+    let number = c .before .before .number in
+    let v = c .before .before .before .before .before .v in
+    let answer2 = c .before .before .before .before .before .before .before .before .answer2 in
+    let evaluate = c .before .before .before .before .before .before .before .before .before .before .evaluate in
+    let a = rw (answer2 .given .1, v .given .1) at (evaluate .ensures) in
+    rw (← a) (number .ensures)
 
 same-length-2 : tie.Need-same-length-2
 same-length-2 c = search needs
@@ -59,9 +64,14 @@ same-length-2 c = search needs
 returns-3 : tie.Need-returns-3
 unfolding fieldOf
 returns-3 c =
-    let a = rw (c .before .before .before .before .before .before .before .before .answer2 .given .1, c .before .before .before .before .before .enum-told .given .1) at (c .before .before .before .before .before .before .before .before .before .before .evaluate .ensures) in
-    let z = rw (c .before .before .before .before .before .enum-told .given .1) at (c .before .before .before .string .ensures .bytes) in
-    rw (← a, ← z) (c .before .before .string2 .ensures)
+    let string2 = c .before .before .string2 in
+    let string = c .before .before .before .string in
+    let enum-told = c .before .before .before .before .before .enum-told in
+    let answer2 = c .before .before .before .before .before .before .before .before .answer2 in
+    let evaluate = c .before .before .before .before .before .before .before .before .before .before .evaluate in
+    let a = rw (answer2 .given .1, enum-told .given .1) at (evaluate .ensures) in
+    let z = rw (enum-told .given .1) at (string .ensures .bytes) in
+    rw (← a, ← z) (string2 .ensures)
 
 same-length-3 : tie.Need-same-length-3
 same-length-3 c = search needs
@@ -69,9 +79,14 @@ same-length-3 c = search needs
 returns-4 : tie.Need-returns-4
 unfolding fieldOf
 returns-4 c =
-    let a = rw (c .before .before .before .before .before .before .before .before .answer2 .given .1, c .before .before .before .before .before .enum-told2 .given .1) at (c .before .before .before .before .before .before .before .before .before .before .evaluate .ensures) in
-    let z = rw (c .before .before .before .before .before .enum-told2 .given .1) at (c .before .before .before .string3 .ensures .bytes) in
-    rw (← a, ← z) (c .before .before .wide .ensures)
+    let wide = c .before .before .wide in
+    let string3 = c .before .before .before .string3 in
+    let enum-told2 = c .before .before .before .before .before .enum-told2 in
+    let answer2 = c .before .before .before .before .before .before .before .before .answer2 in
+    let evaluate = c .before .before .before .before .before .before .before .before .before .before .evaluate in
+    let a = rw (answer2 .given .1, enum-told2 .given .1) at (evaluate .ensures) in
+    let z = rw (enum-told2 .given .1) at (string3 .ensures .bytes) in
+    rw (← a, ← z) (wide .ensures)
 
 pub field-spec : {M : Type 1} → statement M
 field-spec =

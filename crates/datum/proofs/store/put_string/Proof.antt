@@ -32,7 +32,9 @@ loop-less : tie.Need-loop-less Inv-loop μ-loop
 loop-less c = search needs
 
 loop-again : tie.Need-loop-again Inv-loop μ-loop
-loop-again c = let s = c .before .before .before .args .s .now in
+loop-again c =
+    let start = c .before .before .before .args in
+    let s = start .s .now in
     let l = c .before .before .loop in
     (omega arith, onward (getD s (l .i) 0 ∷ []) refl (l .inv .1) (string-next s (l .i) (omega arith)) refl)
 

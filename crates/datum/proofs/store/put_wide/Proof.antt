@@ -35,9 +35,12 @@ loop-less : tie.Need-loop-less Inv-loop μ-loop
 loop-less c = search needs
 
 loop-again : tie.Need-loop-again Inv-loop μ-loop
-loop-again c = let s = c .before .before .before .before .before .before .before .before .before .args .s .now in
+loop-again c =
+    let put-pair = c .before .before .put-pair in
+    let start = c .before .before .before .before .before .before .before .before .before .args in
+    let s = start .s .now in
     let l = c .before .before .before .before .before .before .loop in
-    (omega arith, onward (getD s (l .i) 0 ∷ 0 ∷ []) (c .before .before .put-pair .ensures) (l .inv .1) (wide-next s (l .i) (omega arith)) (omega arith))
+    (omega arith, onward (getD s (l .i) 0 ∷ 0 ∷ []) (put-pair .ensures) (l .inv .1) (wide-next s (l .i) (omega arith)) (omega arith))
 
 mul-put-pair-2 : tie.Need-mul-put-pair-2 Inv-loop μ-loop
 mul-put-pair-2 c = search needs
@@ -46,10 +49,17 @@ put-pair-requires-2 : tie.Need-put-pair-requires-2 Inv-loop μ-loop
 put-pair-requires-2 c κs = search needs
 
 same-length : tie.Need-same-length Inv-loop μ-loop
-same-length c = c .before .before .put-pair2 .kept .0 ∙ c .before .before .before .before .before .loop .inv .1 .kept
+same-length c =
+    let put-pair2 = c .before .before .put-pair2 in
+    let loop = c .before .before .before .before .before .loop in
+    put-pair2 .kept .0 ∙ loop .inv .1 .kept
 
 returns : tie.Need-returns Inv-loop μ-loop
-returns c = let l = c .before .before .before .before .before .loop in ended (0 ∷ 0 ∷ []) (c .before .before .put-pair2 .ensures) (l .inv .1) (wide-last (c .before .before .before .before .before .before .before .before .args .s .now) (l .i) (omega arith))
+returns c =
+    let put-pair2 = c .before .before .put-pair2 in
+    let start = c .before .before .before .before .before .before .before .before .args in
+    let l = c .before .before .before .before .before .loop in ended (0 ∷ 0 ∷ []) (put-pair2 .ensures) (l .inv .1)
+    (wide-last (start .s .now) (l .i) (omega arith))
 
 pub put-wide-spec : {M : Type 1} → statement M
 put-wide-spec =

@@ -26,9 +26,10 @@ is-outside-requires c κs = search needs
 
 returns : tie.Need-returns Inv-loop μ-loop
 returns c =
+    let loop-test = c .before .before .before .loop-test in
     let loop = c .before .before .before .before .loop in
     let start = c .before .before .before .before .before in
-    let turn = on (start .args .codes .now) (start .args .count .0) (start .pre .1) (loop .i) (loop .depth) (c .before .before .before .loop-test .taken) in
+    let turn = on (start .args .codes .now) (start .args .count .0) (start .pre .1) (loop .i) (loop .depth) (loop-test .taken) in
     sym (loop .inv .2 ∙ turn ∙ rw (← c .before .is-outside .ensures, c .if1 .taken))
 
 deeper-requires : tie.Need-deeper-requires Inv-loop μ-loop
@@ -46,14 +47,16 @@ loop-less c = omega arith
 
 loop-again : tie.Need-loop-again Inv-loop μ-loop
 loop-again c =
+    let is-outside = c .before .before .is-outside in
+    let loop-test = c .before .before .before .before .loop-test in
     let loop = c .before .before .before .before .before .loop in
     let start = c .before .before .before .before .before .before in
     let codes = start .args .codes .now in
     let depth = c .deeper .ensures in
-    let turn = on codes (start .args .count .0) (start .pre .1) (loop .i) (loop .depth) (c .before .before .before .before .loop-test .taken) in (
+    let turn = on codes (start .args .count .0) (start .pre .1) (loop .i) (loop .depth) (loop-test .taken) in (
       omega arith,
       omega (arith, depth, deeper-most (loop .depth) (getD codes (loop .i) 0)),
-      loop .inv .2 ∙ turn ∙ rw (← c .before .before .is-outside .ensures, c .before .if1 .left, depth),
+      loop .inv .2 ∙ turn ∙ rw (← is-outside .ensures, c .before .if1 .left, depth),
     )
 
 returns-2 : tie.Need-returns-2 Inv-loop μ-loop

@@ -18,13 +18,13 @@ returns c =
     let s = c .before .before .before .before .before in
     c .refused .ensures (s .args .expr .now) (s .args .table .now) ∙ rw (sym (c .before .before .is-well-formed .ensures) ∙ not-true _ (c .before .if1 .taken))
 
-in-sound-table-requires : tie.Need-in-sound-table-requires
-in-sound-table-requires c κs = sym (c .before .is-well-formed .ensures) ∙ not-false _ (c .if1 .left)
+evaluate-in-requires : tie.Need-evaluate-in-requires
+evaluate-in-requires c κs = sym (c .before .is-well-formed .ensures) ∙ not-false _ (c .if1 .left)
 
 returns-2 : tie.Need-returns-2
-returns-2 c = c .in-sound-table .ensures
+returns-2 c = c .evaluate-in .ensures
 
 pub evaluate-spec : {M : Type 1} → statement M
 evaluate-spec =
     tie.close
-    (tie.spec is-well-formed-requires refused-requires returns in-sound-table-requires returns-2)
+    (tie.spec is-well-formed-requires refused-requires returns evaluate-in-requires returns-2)

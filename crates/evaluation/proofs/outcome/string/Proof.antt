@@ -38,15 +38,19 @@ returns c =
 
 returns-2 : tie.Need-returns-2
 returns-2 c =
+    let v = c .before .before .v in
+    let a = c .before .before .before .before .before .a in
     let s = c .before .before .before .before .before .before .before .before .before in
-    let b = part-bytes (s .args .expr) (s .args .table) (c .before .before .v .given .0 .0) (c .bytes .result) (c .bytes .ensures) in
-    rw (c .before .before .before .before .before .a .given .1, c .before .before .v .given .1) (record { part = c .bytes .ensures; bytes = b })
+    let b = part-bytes (s .args .expr) (s .args .table) (v .given .0 .0) (c .bytes .result) (c .bytes .ensures) in
+    rw (a .given .1, v .given .1) (record { part = c .bytes .ensures; bytes = b })
 
 returns-3 : tie.Need-returns-3
 returns-3 c =
+    let v2 = c .before .before .v2 in
+    let a = c .before .before .before .before .before .a in
     let s = c .before .before .before .before .before .before .before .before .before in
-    let b = part-bytes (s .args .expr) (s .args .table) (c .before .before .v2 .given .0 .0) (c .bytes2 .result) (c .bytes2 .ensures) in
-    rw (c .before .before .before .before .before .a .given .1, c .before .before .v2 .given .1) (record { part = c .bytes2 .ensures; bytes = b })
+    let b = part-bytes (s .args .expr) (s .args .table) (v2 .given .0 .0) (c .bytes2 .result) (c .bytes2 .ensures) in
+    rw (a .given .1, v2 .given .1) (record { part = c .bytes2 .ensures; bytes = b })
 
 returns-4 : tie.Need-returns-4
 returns-4 c = rw (c .before .enum-told2 .given .1) (record { part = c .part2 .ensures; bytes = c .part2 .ensures .bytes })

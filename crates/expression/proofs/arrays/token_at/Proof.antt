@@ -26,7 +26,9 @@ shared-slice-read-t19 : tie.Need-shared-slice-read-t19
 shared-slice-read-t19 c = search needs
 
 returns : tie.Need-returns
-returns c = rw (lt-ltb _ _ (c .before .before .before .before .pre .1))
+returns c =
+    let pre = c .before .before .before .before .pre in
+    rw (lt-ltb _ _ (pre .1))
 
 pub token-at-spec : {M : Type 1} → statement M
 token-at-spec =

@@ -7,7 +7,7 @@ use mathlib.Core.Bool.{true, false}
 use mathlib.Core.List.{List}
 use lib.ListN.{length}
 use borrow.Author.Needs.{needs}
-use Rattle.value.specs.Denote.{known}
+use Rattle.value.specs.Denote.{denoteAttributes}
 use Rattle.value.specs.Attributes.{primaryOf}
 use Rattle.grammar.specs.Grammar.{isPrimary}
 use Rattle.grammar.proofs.Inside.{primary-inside}
@@ -15,7 +15,9 @@ use Rattle.syntax.specs.Order.{UNARY, FILLER}
 use Rattle.syntax.proofs.Orders.{ended}
 use Rattle.operands.proofs.Piles.{alone, instead}
 use Rattle.expression.specs.Postfix.{codeIn, Entry, operand, unary, binary, choice, filler, entryOf}
-use Rattle.expression.proofs.Entries.{Work, Rest, Next, begun, is-unary, is-operand, is-filler, is-choice, is-binary, opened, closed, operand-room, unary-finds, binary-finds, choice-finds, filler-on, operand-on, unary-on, binary-on, choice-on}
+use Rattle.expression.proofs.Entries.{Work, Rest, Next, begun, is-unary, is-operand, is-filler, is-choice, is-binary, opened, closed}
+use Rattle.expression.proofs.Entries.{operand-room, unary-finds, binary-finds, choice-finds, filler-on, operand-on, unary-on}
+use Rattle.expression.proofs.Entries.{binary-on, choice-on}
 use Rattle.expression.proofs.postfix.fold.Statement.{statement}
 use Rattle.expression.proofs.postfix.fold.Tie as tie
 
@@ -94,7 +96,9 @@ no-unary c = c .if1 .left
 
 -- it is no filler
 no-filler : (c : tie.Then3 Inv-loop μ-loop) → number (c .before .before .before .before .before) ≡ FILLER → ⊥
-no-filler c q = c .if3 .taken (sym (c .before .before .before .before .before .entry-number .ensures) ∙ q)
+no-filler c q =
+    let entry-number = c .before .before .before .before .before .entry-number in
+    c .if3 .taken (sym (entry-number .ensures) ∙ q)
 
 -- what it stands for, in each arm
 found-unary : (c : tie.Then1 Inv-loop μ-loop) → Is unary (c .before)
@@ -351,7 +355,9 @@ load-requires c κs =
     omega (arith, one .0, inv .room, inv .long)
 
 same-length : tie.Need-same-length Inv-loop μ-loop
-same-length c = c .before .before .before .loop .inv .long
+same-length c =
+    let loop = c .before .before .before .loop in
+    loop .inv .long
 
 returns : tie.Need-returns Inv-loop μ-loop
 returns c =
@@ -361,7 +367,7 @@ returns c =
     λ v g.
     let shape = closed (omega (arith, c .before .before .loop-test .left, inv .entries)) (inv .rest) v g in
     let one = alone (start .args .expr .now) (start .args .table .now) (loop .waiting) (loop .top) v shape in
-    ap (known (start .args .expr .now) (start .args .table .now)) (c .load .ensures) ∙ one .1
+    ap (denoteAttributes (start .args .expr .now) (start .args .table .now)) (c .load .ensures) ∙ one .1
 
 pub fold-spec : {M : Type 1} → statement M
 fold-spec =

@@ -25,7 +25,9 @@ abbrev turn-1 : tie.Else1 Inv-loop μ-loop → Turn
 turn-1 c = c .before .before
 
 passed-1 : (c : tie.Else1 Inv-loop μ-loop) → Reaches (turn-1 c) 1
-passed-1 c = one-more (c .before .before .before .loop .inv .2) (omega arith) (c .if1 .left) (omega arith)
+passed-1 c =
+    let loop = c .before .before .before .loop in
+    one-more (loop .inv .2) (omega arith) (c .if1 .left) (omega arith)
 
 abbrev turn-2 : tie.Else2 Inv-loop μ-loop → Turn
 turn-2 c = turn-1 (c .before .before)
@@ -79,7 +81,9 @@ shared-slice-read-if1 : tie.Need-shared-slice-read-if1 Inv-loop μ-loop
 shared-slice-read-if1 c = omega arith
 
 returns : tie.Need-returns Inv-loop μ-loop
-returns c = found (c .before .before .before .loop .inv .2) (omega arith) (c .if1 .taken)
+returns c =
+    let loop = c .before .before .before .loop in
+    found (loop .inv .2) (omega arith) (c .if1 .taken)
 
 add-if2 : tie.Need-add-if2 Inv-loop μ-loop
 add-if2 c = omega arith

@@ -66,15 +66,25 @@ returns c = rw (c .spelled .ensures) (sym (by-length words _ 2 (c .before .befor
 
 returns-2 : tie.Need-returns-2
 unfolding named
-returns-2 c = rw (c .spelled3 .ensures, c .before .before .spelled2 .ensures) (sym (by-length words _ 4 (c .before .before .before .before .match .keys2)))
+returns-2 c =
+    let spelled2 = c .before .before .spelled2 in
+    let matched = c .before .before .before .before .match in
+    rw (c .spelled3 .ensures, spelled2 .ensures) (sym (by-length words _ 4 (matched .keys2)))
 
 returns-3 : tie.Need-returns-3
 unfolding named
-returns-3 c = rw (c .spelled6 .ensures, c .before .before .spelled5 .ensures, c .before .before .before .before .spelled4 .ensures) (sym (by-length words _ 5 (c .before .before .before .before .before .before .match .keys3)))
+returns-3 c =
+    let spelled5 = c .before .before .spelled5 in
+    let spelled4 = c .before .before .before .before .spelled4 in
+    let matched = c .before .before .before .before .before .before .match in
+    rw (c .spelled6 .ensures, spelled5 .ensures, spelled4 .ensures) (sym (by-length words _ 5 (matched .keys3)))
 
 returns-4 : tie.Need-returns-4
 unfolding named
-returns-4 c = rw (c .spelled8 .ensures, c .before .before .spelled7 .ensures) (sym (by-length words _ 6 (c .before .before .before .before .match .keys4)))
+returns-4 c =
+    let spelled7 = c .before .before .spelled7 in
+    let matched = c .before .before .before .before .match in
+    rw (c .spelled8 .ensures, spelled7 .ensures) (sym (by-length words _ 6 (matched .keys4)))
 
 returns-5 : tie.Need-returns-5
 unfolding named

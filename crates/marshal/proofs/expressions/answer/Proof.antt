@@ -19,17 +19,23 @@ show-value-requires : tie.Need-show-value-requires
 show-value-requires c κs = search needs
 
 returns : tie.Need-returns
-returns c = let s = c .before .before .before .before .before .before .before .before in
+returns c =
+    let r = c .before .before .before .r in
+    let evaluate = c .before .before .before .before .before .evaluate in
+    let s = c .before .before .before .before .before .before .before .before in
     let e = s .args .expr .now in
     let t = s .args .table .now in
-    let a = rw (c .before .before .before .r .given .1) at (c .before .before .before .before .before .evaluate .ensures) in
+    let a = rw (r .given .1) at (evaluate .ensures) in
     record { refused-with = rw (← a); written = rw (← a) (c .show-number .ensures) }
 
 returns-2 : tie.Need-returns-2
-returns-2 c = let s = c .before .before .before .before .before .before .before .before in
+returns-2 c =
+    let v = c .before .before .before .v in
+    let evaluate = c .before .before .before .before .before .evaluate in
+    let s = c .before .before .before .before .before .before .before .before in
     let e = s .args .expr .now in
     let t = s .args .table .now in
-    let a = rw (c .before .before .before .v .given .1) at (c .before .before .before .before .before .evaluate .ensures) in
+    let a = rw (v .given .1) at (evaluate .ensures) in
     record { refused-with = rw (← a); written = rw (← a) (c .show-value .ensures e t) }
 
 pub answer-spec : {M : Type 1} → statement M

@@ -18,7 +18,8 @@ same-length c = search needs
 
 returns : tie.Need-returns
 returns c =
-    let w = c .before .before .before .before .before .field .ensures in
+    let field = c .before .before .before .before .before .field in
+    let w = field .ensures in
     let a = sym (w .answer) ∙ c .before .n .given .1 in
     record { refused-with = rw a; length-is = rw a; buffer-is = w .buffer }
 
@@ -27,7 +28,8 @@ same-length-2 c = search needs
 
 returns-2 : tie.Need-returns-2
 returns-2 c =
-    let w = c .before .before .before .before .before .field .ensures in
+    let field = c .before .before .before .before .before .field in
+    let w = field .ensures in
     let a = sym (w .answer) ∙ c .before .r .given .1 in
     record { refused-with = rw a; length-is = rw a; buffer-is = w .buffer }
 

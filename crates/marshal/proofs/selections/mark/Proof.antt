@@ -24,8 +24,10 @@ same-length c = search needs
 
 returns : tie.Need-returns
 returns c =
-    let w = c .before .before .before .before .before .before .before .select .ensures in
-    let a = sym (c .before .before .before .lines .given .1) ∙ w .answer in
+    let lines = c .before .before .before .lines in
+    let select = c .before .before .before .before .before .before .before .select in
+    let w = select .ensures in
+    let a = sym (lines .given .1) ∙ w .answer in
     record { refused-with = rw (← a); shown = rw (← a) (c .show-run .ensures); marks-are = w .marks-are }
 
 same-length-2 : tie.Need-same-length-2
@@ -33,8 +35,10 @@ same-length-2 c = search needs
 
 returns-2 : tie.Need-returns-2
 returns-2 c =
-    let w = c .before .before .before .before .before .before .before .before .select .ensures in
-    let a = sym (c .before .before .before .before .r .given .1) ∙ w .answer in
+    let r = c .before .before .before .before .r in
+    let select = c .before .before .before .before .before .before .before .before .select in
+    let w = select .ensures in
+    let a = sym (r .given .1) ∙ w .answer in
     record { refused-with = rw (← a); shown = rw (← a) (c .show-run2 .ensures); marks-are = w .marks-are }
 
 pub mark-spec : {M : Type 1} → statement M

@@ -16,7 +16,10 @@ show-requires : tie.Need-show-requires
 show-requires c κs = sym (c .before .before .is-well-formed .ensures) ∙ not-false (c .before .before .is-well-formed .result) (c .before .if1 .left)
 
 returns-2 : tie.Need-returns-2
-returns-2 c = let w = sym (c .before .before .before .is-well-formed .ensures) ∙ not-false (c .before .before .before .is-well-formed .result) (c .before .before .if1 .left) in
+returns-2 c =
+    let if1 = c .before .before .if1 in
+    let is-well-formed = c .before .before .before .is-well-formed in
+    let w = sym (is-well-formed .ensures) ∙ not-false (is-well-formed .result) (if1 .left) in
     record { refused = rw w; written = rw w (c .show .ensures) }
 
 pub look-up-spec : {M : Type 1} → statement M

@@ -55,16 +55,30 @@ element-write-out-12 : tie.Need-element-write-out-12
 element-write-out-12 c = search needs
 
 returns : tie.Need-returns
-returns c = rw (← c .before .before .before .lookup .ensures .right (c .before .before .before .before .before .before .pre), c .before .value .given .1)
+returns c =
+    let lookup = c .before .before .before .lookup in
+    let pre = c .before .before .before .before .before .before .pre in
+    rw (← lookup .ensures .right (pre), c .before .value .given .1)
 
 returns-2 : tie.Need-returns-2
-returns-2 c = rw (← c .before .before .before .before .lookup .ensures .right (c .before .before .before .before .before .before .before .pre), c .before .before .part .given .1)
+returns-2 c =
+    let part = c .before .before .part in
+    let lookup = c .before .before .before .before .lookup in
+    let pre = c .before .before .before .before .before .before .before .pre in
+    rw (← lookup .ensures .right (pre), part .given .1)
 
 returns-3 : tie.Need-returns-3
-returns-3 c = rw (← c .before .before .before .before .lookup .ensures .right (c .before .before .before .before .before .before .before .pre), c .before .before .part2 .given .1)
+returns-3 c =
+    let part2 = c .before .before .part2 in
+    let lookup = c .before .before .before .before .lookup in
+    let pre = c .before .before .before .before .before .before .before .pre in
+    rw (← lookup .ensures .right (pre), part2 .given .1)
 
 returns-4 : tie.Need-returns-4
-returns-4 c = rw (← c .before .before .lookup .ensures .right (c .before .before .before .before .before .pre), c .enum-told .given .1)
+returns-4 c =
+    let lookup = c .before .before .lookup in
+    let pre = c .before .before .before .before .before .pre in
+    rw (← lookup .ensures .right (pre), c .enum-told .given .1)
 
 pub show-spec : {M : Type 1} → statement M
 show-spec =

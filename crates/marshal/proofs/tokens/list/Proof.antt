@@ -7,7 +7,8 @@ use Rattle.marshal.proofs.tokens.list.Tie as tie
 
 tokens-requires : tie.Need-tokens-requires
 tokens-requires c κs =
-    let most = most-tokens (c .before .before .before .before .before .args .expr .now) in
+    let start = c .before .before .before .before .before .args in
+    let most = most-tokens (start .expr .now) in
     record { codes-hold = omega (arith, most); starts-hold = omega (arith, most); lens-hold = omega (arith, most); values-hold = omega (arith, most) }
 
 number-of-requires : tie.Need-number-of-requires

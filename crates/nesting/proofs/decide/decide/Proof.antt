@@ -31,14 +31,14 @@ open-group-requires-3 c κs = search needs
 enum-told-5 : tie.Need-enum-told-5
 enum-told-5 c = search needs
 
-standing-requires : tie.Need-standing-requires
-standing-requires c κs = search needs
+group-state-requires : tie.Need-group-state-requires
+group-state-requires c κs = search needs
 
-is-closed-requires : tie.Need-is-closed-requires
-is-closed-requires c κs = search needs
+has-else-requires : tie.Need-has-else-requires
+has-else-requires c κs = search needs
 
-elseif-ruling-requires : tie.Need-elseif-ruling-requires
-elseif-ruling-requires c κs = search needs
+elseif-transition-requires : tie.Need-elseif-transition-requires
+elseif-transition-requires c κs = search needs
 
 apply-requires : tie.Need-apply-requires
 apply-requires c κs = search needs
@@ -46,14 +46,14 @@ apply-requires c κs = search needs
 enum-told-6 : tie.Need-enum-told-6
 enum-told-6 c = search needs
 
-standing-requires-2 : tie.Need-standing-requires-2
-standing-requires-2 c κs = search needs
+group-state-requires-2 : tie.Need-group-state-requires-2
+group-state-requires-2 c κs = search needs
 
-is-closed-requires-2 : tie.Need-is-closed-requires-2
-is-closed-requires-2 c κs = search needs
+has-else-requires-2 : tie.Need-has-else-requires-2
+has-else-requires-2 c κs = search needs
 
-else-ruling-requires : tie.Need-else-ruling-requires
-else-ruling-requires c κs = search needs
+else-transition-requires : tie.Need-else-transition-requires
+else-transition-requires c κs = search needs
 
 apply-requires-2 : tie.Need-apply-requires-2
 apply-requires-2 c κs = search needs
@@ -61,11 +61,11 @@ apply-requires-2 c κs = search needs
 enum-told-7 : tie.Need-enum-told-7
 enum-told-7 c = search needs
 
-standing-requires-3 : tie.Need-standing-requires-3
-standing-requires-3 c κs = search needs
+group-state-requires-3 : tie.Need-group-state-requires-3
+group-state-requires-3 c κs = search needs
 
-end-ruling-requires : tie.Need-end-ruling-requires
-end-ruling-requires c κs = search needs
+end-transition-requires : tie.Need-end-transition-requires
+end-transition-requires c κs = search needs
 
 apply-requires-3 : tie.Need-apply-requires-3
 apply-requires-3 c κs = search needs
@@ -94,15 +94,26 @@ returns-4 c = λ t q. rw (c .before .enum-told4 .given .1) (c .open-group3 .ensu
 
 returns-5 : tie.Need-returns-5
 unfolding decided
-returns-5 c = λ t q. rw (c .before .before .before .before .enum-told5 .given .1, ← c .before .before .before .standing .ensures t q, ← c .before .before .is-closed .ensures t q, ← c .before .elseif-ruling .ensures) (c .apply .ensures t q)
+returns-5 c =
+    let has-else = c .before .before .has-else in
+    let group-state = c .before .before .before .group-state in
+    let enum-told5 = c .before .before .before .before .enum-told5 in
+    λ t q. rw (enum-told5 .given .1, ← group-state .ensures t q, ← has-else .ensures t q, ← c .before .elseif-transition .ensures) (c .apply .ensures t q)
 
 returns-6 : tie.Need-returns-6
 unfolding decided
-returns-6 c = λ t q. rw (c .before .before .before .before .enum-told6 .given .1, ← c .before .before .before .standing2 .ensures t q, ← c .before .before .is-closed2 .ensures t q, ← c .before .else-ruling .ensures) (c .apply2 .ensures t q)
+returns-6 c =
+    let has-else2 = c .before .before .has-else2 in
+    let group-state2 = c .before .before .before .group-state2 in
+    let enum-told6 = c .before .before .before .before .enum-told6 in
+    λ t q. rw (enum-told6 .given .1, ← group-state2 .ensures t q, ← has-else2 .ensures t q, ← c .before .else-transition .ensures) (c .apply2 .ensures t q)
 
 returns-7 : tie.Need-returns-7
 unfolding decided
-returns-7 c = λ t q. rw (c .before .before .before .enum-told7 .given .1, ← c .before .before .standing3 .ensures t q, ← c .before .end-ruling .ensures) (c .apply3 .ensures t q)
+returns-7 c =
+    let group-state3 = c .before .before .group-state3 in
+    let enum-told7 = c .before .before .before .enum-told7 in
+    λ t q. rw (enum-told7 .given .1, ← group-state3 .ensures t q, ← c .before .end-transition .ensures) (c .apply3 .ensures t q)
 
 returns-8 : tie.Need-returns-8
 unfolding decided
@@ -121,18 +132,18 @@ decide-spec =
     enum-told-4
     open-group-requires-3
     enum-told-5
-    standing-requires
-    is-closed-requires
-    elseif-ruling-requires
+    group-state-requires
+    has-else-requires
+    elseif-transition-requires
     apply-requires
     enum-told-6
-    standing-requires-2
-    is-closed-requires-2
-    else-ruling-requires
+    group-state-requires-2
+    has-else-requires-2
+    else-transition-requires
     apply-requires-2
     enum-told-7
-    standing-requires-3
-    end-ruling-requires
+    group-state-requires-3
+    end-transition-requires
     apply-requires-3
     enum-told-8
     refused-requires

@@ -1,29 +1,37 @@
 -- How the innermost group stands decides.
 use mathlib.Core.Path.{sym, ap, _∙_}
-use Rattle.ruling.specs.Standings.{live}
+use Rattle.ruling.specs.States.{isActive}
 use borrow.Author.Needs.{needs}
 use Rattle.nesting.proofs.decide.plain.Statement.{statement}
 use Rattle.nesting.proofs.decide.plain.Tie as tie
 
-standing-requires : tie.Need-standing-requires
-standing-requires c κs = search needs
+group-state-requires : tie.Need-group-state-requires
+group-state-requires c κs = search needs
 
-live-requires : tie.Need-live-requires
-live-requires c κs = search needs
+is-active-requires : tie.Need-is-active-requires
+is-active-requires c κs = search needs
 
-went-requires : tie.Need-went-requires
-went-requires c κs = search needs
+accepted-requires : tie.Need-accepted-requires
+accepted-requires c κs = search needs
 
 returns : tie.Need-returns
-returns c = λ t q. rw (sym (ap live (c .before .before .before .standing .ensures t q)) ∙ sym (c .before .before .live .ensures) ∙ c .before .if1 .taken) (c .went .ensures (c .before .before .before .before .args .x) t q)
+returns c =
+    let is-active = c .before .before .is-active in
+    let group-state = c .before .before .before .group-state in
+    let start = c .before .before .before .before .args in
+    λ t q. rw (sym (ap isActive (group-state .ensures t q)) ∙ sym (is-active .ensures) ∙ c .before .if1 .taken) (c .accepted .ensures (start .x) t q)
 
-went-requires-2 : tie.Need-went-requires-2
-went-requires-2 c κs = search needs
+accepted-requires-2 : tie.Need-accepted-requires-2
+accepted-requires-2 c κs = search needs
 
 returns-2 : tie.Need-returns-2
-returns-2 c = λ t q. rw (sym (ap live (c .before .before .before .standing .ensures t q)) ∙ sym (c .before .before .live .ensures) ∙ c .before .if1 .left) (c .went2 .ensures (c .before .before .before .before .args .x) t q)
+returns-2 c =
+    let is-active = c .before .before .is-active in
+    let group-state = c .before .before .before .group-state in
+    let start = c .before .before .before .before .args in
+    λ t q. rw (sym (ap isActive (group-state .ensures t q)) ∙ sym (is-active .ensures) ∙ c .before .if1 .left) (c .accepted2 .ensures (start .x) t q)
 
 pub plain-spec : {M : Type 1} → statement M
 plain-spec =
     tie.close
-    (tie.spec standing-requires live-requires went-requires returns went-requires-2 returns-2)
+    (tie.spec group-state-requires is-active-requires accepted-requires returns accepted-requires-2 returns-2)

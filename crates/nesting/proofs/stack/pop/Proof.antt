@@ -1,13 +1,13 @@
 -- The innermost group's digit is dropped.
 use Rattle.nesting.proofs.Stacks.{popped, unchanged}
 use mathlib.Core.Path.{refl}
-use Rattle.nesting.specs.Decide.{closeOne}
+use Rattle.nesting.specs.Decide.{pop}
 use borrow.Author.Needs.{needs}
 use Rattle.nesting.proofs.stack.pop.Statement.{statement}
 use Rattle.nesting.proofs.stack.pop.Tie as tie
 
 returns : tie.Need-returns
-returns c = λ t r. unchanged (c .before .args .x) t r (c .if1 .taken) closeOne refl
+returns c = λ t r. unchanged (c .before .args .x) t r (c .if1 .taken) pop refl
 
 sub-y : tie.Need-sub-y
 sub-y c = search needs

@@ -1,7 +1,7 @@
 -- The operands are taken, and what the operator makes of them stored.
 use native.Mathlib.Omega.{arith}
 use mathlib.Core.Path.{ap, _∙_}
-use Rattle.value.specs.Denote.{known}
+use Rattle.value.specs.Denote.{denoteAttributes}
 use Rattle.value.specs.Attributes.{binaryFrom}
 use Rattle.operands.specs.Stack.{operandAt}
 use Rattle.operands.proofs.Piles.{instead}
@@ -20,8 +20,9 @@ load-requires-2 c κs = search needs
 
 of-binary-requires : tie.Need-of-binary-requires
 of-binary-requires c κs =
+    let load = c .before .before .before .load in
     let start = c .before .before .before .before .before .before .before in
-    omega (arith, start .pre .1, ap (λ k. k .count) (c .before .load2 .ensures), ap (λ k. k .count) (c .before .before .before .load .ensures))
+    omega (arith, start .pre .1, ap (λ k. k .count) (c .before .load2 .ensures), ap (λ k. k .count) (load .ensures))
 
 store-requires : tie.Need-store-requires
 store-requires c κs = search needs
@@ -31,15 +32,18 @@ same-length c = search needs
 
 returns : tie.Need-returns
 returns c =
+    let of-binary = c .before .before .of-binary in
+    let load2 = c .before .before .before .before .load2 in
+    let load = c .before .before .before .before .before .before .load in
     let start = c .before .before .before .before .before .before .before .before .before .before in
-    let first = c .before .before .before .before .before .before .load .ensures in
-    let second = c .before .before .before .before .load2 .ensures in
+    let first = load .ensures in
+    let second = load2 .ensures in
     let e = start .args .expr .now in
     let t = start .args .table .now in
     let o = start .args .o in
-    let left = ap (λ a. binaryFrom o (known e t a) (known e t (c .before .before .before .before .load2 .result))) first in
-    let right = ap (λ b. binaryFrom o (operandAt e t (start .args .waiting .now) (start .args .at)) (known e t b)) second in
-    instead (c .before .before .of-binary .ensures ∙ left ∙ right) (c .before .store .ensures e t)
+    let left = ap (λ a. binaryFrom o (denoteAttributes e t a) (denoteAttributes e t (load2 .result))) first in
+    let right = ap (λ b. binaryFrom o (operandAt e t (start .args .waiting .now) (start .args .at)) (denoteAttributes e t b)) second in
+    instead (of-binary .ensures ∙ left ∙ right) (c .before .store .ensures e t)
 
 pub binary-spec : {M : Type 1} → statement M
 binary-spec =

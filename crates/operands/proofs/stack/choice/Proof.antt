@@ -1,7 +1,7 @@
 -- The operands are taken, and what the operator makes of them stored.
 use native.Mathlib.Omega.{arith}
 use mathlib.Core.Path.{ap, _∙_}
-use Rattle.value.specs.Denote.{known}
+use Rattle.value.specs.Denote.{denoteAttributes}
 use Rattle.value.specs.Attributes.{choiceFrom}
 use Prim.Native.Nat.{_+_}
 use Rattle.operands.specs.Stack.{operandAt}
@@ -27,9 +27,11 @@ load-requires-3 c κs = search needs
 
 of-choice-requires : tie.Need-of-choice-requires
 of-choice-requires c κs =
+    let load2 = c .before .before .before .load2 in
+    let load = c .before .before .before .before .before .load in
     let start = c .before .before .before .before .before .before .before in
-    let test = ap (λ k. k .count) (c .before .before .before .before .before .load .ensures) in
-    omega (arith, start .pre .1, test, ap (λ k. k .count) (c .before .before .before .load2 .ensures), ap (λ k. k .count) (c .before .load3 .ensures))
+    let test = ap (λ k. k .count) (load .ensures) in
+    omega (arith, start .pre .1, test, ap (λ k. k .count) (load2 .ensures), ap (λ k. k .count) (c .before .load3 .ensures))
 
 store-requires : tie.Need-store-requires
 store-requires c κs = search needs
@@ -38,17 +40,20 @@ same-length : tie.Need-same-length
 same-length c = search needs
 
 returns : tie.Need-returns
-returns c = λ e t.
+returns c =
+    let of-choice = c .before .before .of-choice in
+    λ e t.
     let start = c .before .before .before .before .before .before .before .before .before .before in
     let test = c .before .before .before .before .before .before .before .before .load in
     let first = c .before .before .before .before .before .before .load2 in
     let second = c .before .before .before .before .load3 in
     let test-at = operandAt e t (start .args .waiting .now) (start .args .at) in
     let first-at = operandAt e t (start .args .waiting .now) (start .args .at + 1) in
-    let by-test = ap (λ x. choiceFrom (known e t x) (known e t (first .result)) (known e t (second .result))) (test .ensures) in
-    let by-first = ap (λ x. choiceFrom test-at (known e t x) (known e t (second .result))) (first .ensures) in
-    let by-second = ap (λ x. choiceFrom test-at first-at (known e t x)) (second .ensures) in
-    instead (c .before .before .of-choice .ensures e t ∙ by-test ∙ by-first ∙ by-second) (c .before .store .ensures e t)
+    let by-test = ap (λ x. choiceFrom (denoteAttributes e t x) (denoteAttributes e t (first .result))
+    (denoteAttributes e t (second .result))) (test .ensures) in
+    let by-first = ap (λ x. choiceFrom test-at (denoteAttributes e t x) (denoteAttributes e t (second .result))) (first .ensures) in
+    let by-second = ap (λ x. choiceFrom test-at first-at (denoteAttributes e t x)) (second .ensures) in
+    instead (of-choice .ensures e t ∙ by-test ∙ by-first ∙ by-second) (c .before .store .ensures e t)
 
 pub choice-spec : {M : Type 1} → statement M
 choice-spec =

@@ -1,7 +1,7 @@
 -- The operand is taken, and what the operator makes of it stored.
 use native.Mathlib.Omega.{arith}
 use mathlib.Core.Path.{ap, _∙_}
-use Rattle.value.specs.Denote.{known}
+use Rattle.value.specs.Denote.{denoteAttributes}
 use Rattle.value.specs.Attributes.{unaryFrom}
 use Rattle.operands.proofs.Piles.{instead}
 use borrow.Author.Needs.{needs}
@@ -24,9 +24,12 @@ same-length c = search needs
 
 returns : tie.Need-returns
 returns c =
-    let taken = c .before .before .before .before .load .ensures in
-    let o = c .before .before .before .before .before .before .args .o in
-    λ e t. instead (c .before .before .of-unary .ensures e t ∙ ap (λ a. unaryFrom o (known e t a)) taken) (c .before .store .ensures e t)
+    let of-unary = c .before .before .of-unary in
+    let load = c .before .before .before .before .load in
+    let start = c .before .before .before .before .before .before .args in
+    let taken = load .ensures in
+    let o = start .o in
+    λ e t. instead (of-unary .ensures e t ∙ ap (λ a. unaryFrom o (denoteAttributes e t a)) taken) (c .before .store .ensures e t)
 
 pub unary-spec : {M : Type 1} → statement M
 unary-spec =

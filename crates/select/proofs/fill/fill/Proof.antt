@@ -25,16 +25,32 @@ add-i : tie.Need-add-i Inv-loop μ-loop
 add-i c = omega arith
 
 loop-less : tie.Need-loop-less Inv-loop μ-loop
-loop-less c = omega (arith, filled-length (c .before .before .args .marks .now) (c .before .before .args .b) (c .before .loop .i) (c .before .loop .marks) (c .before .loop .inv .0) (c .before .loop .inv .1))
+loop-less c =
+    let loop = c .before .loop in
+    let start = c .before .before .args in
+    omega (arith, filled-length (start .marks .now) (start .b) (loop .i) (loop .marks) (loop .inv .0) (loop .inv .1))
 
 loop-again : tie.Need-loop-again Inv-loop μ-loop
-loop-again c = let h : c .before .loop .i < length (c .before .before .args .marks .now) = omega (arith, filled-length (c .before .before .args .marks .now) (c .before .before .args .b) (c .before .loop .i) (c .before .loop .marks) (c .before .loop .inv .0) (c .before .loop .inv .1)) in (omega arith, rw (c .before .loop .inv .1) (fill-more (c .before .loop .i) (c .before .before .args .b) (c .before .before .args .marks .now) h))
+loop-again c =
+    let loop = c .before .loop in
+    let start = c .before .before .args in
+    let h : loop .i < length (start .marks .now) = omega (
+      arith,
+      filled-length (start .marks .now) (start .b) (loop .i) (loop .marks)
+          (loop .inv .0) (loop .inv .1),
+    ) in (omega arith, rw (loop .inv .1) (fill-more (loop .i) (start .b) (start .marks .now) h))
 
 same-length : tie.Need-same-length Inv-loop μ-loop
-same-length c = filled-length (c .before .before .args .marks .now) (c .before .before .args .b) (c .before .loop .i) (c .before .loop .marks) (c .before .loop .inv .0) (c .before .loop .inv .1)
+same-length c =
+    let loop = c .before .loop in
+    let start = c .before .before .args in
+    filled-length (start .marks .now) (start .b) (loop .i) (loop .marks) (loop .inv .0) (loop .inv .1)
 
 returns : tie.Need-returns Inv-loop μ-loop
-returns c = all-filled (c .before .before .args .marks .now) (c .before .before .args .b) (c .before .loop .i) (c .before .loop .marks) (c .before .loop .inv .0) (c .before .loop .inv .1) (c .loop-test .left)
+returns c =
+    let loop = c .before .loop in
+    let start = c .before .before .args in
+    all-filled (start .marks .now) (start .b) (loop .i) (loop .marks) (loop .inv .0) (loop .inv .1) (c .loop-test .left)
 
 pub fill-spec : {M : Type 1} → statement M
 fill-spec =

@@ -1,6 +1,6 @@
 -- The entry on top has the line of the innermost group.
 use mathlib.Core.Path.{_∙_}
-use Rattle.select.proofs.Ends.{no-group, top-line}
+use Rattle.select.proofs.FinishCorrect.{no-group, top-line}
 use borrow.Author.Needs.{needs}
 use Rattle.select.proofs.run.finish.Statement.{statement}
 use Rattle.select.proofs.run.finish.Tie as tie

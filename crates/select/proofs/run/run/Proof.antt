@@ -7,8 +7,8 @@ use lib.ListN.{length, length-set}
 use borrow.Author.Needs.{needs}
 use borrow.Author.Tests.{not-true, not-false}
 use Rattle.select.specs.Running.{MarksPlain}
-use Rattle.select.proofs.Underway.{Underway, begun, as-many-lines, few-counted, inside, stops, goes-on, passes-plain, finished}
-use Rattle.select.proofs.Turns.{start-kept, refused-run}
+use Rattle.select.proofs.RunInvariant.{Underway, begun, as-many-lines, few-counted, inside, stops, goes-on, passes-plain, finished}
+use Rattle.select.proofs.RunBounds.{start-kept, refused-run}
 use Rattle.select.proofs.run.run.Statement.{statement}
 use Rattle.select.proofs.run.run.Tie as tie
 
@@ -136,6 +136,8 @@ loop-less c =
 
 loop-again : tie.Need-loop-again Inv-loop μ-loop
 loop-again c =
+    let is-passed = c .before .before .is-passed in
+    let read-head = c .before .before .before .read-head in
     let cut = c .before .before .before .before .before .before in
     let loop = cut .before .before .before in
     let start = loop .before .before .before .before .before in
@@ -143,8 +145,8 @@ loop-again c =
     let u = now .inv .0 in
     ⊎-elim
     (λ passed.
-    let is-plain = c .before .before .is-passed .ensures (passed .0 .taken) in
-    let head = c .before .before .before .read-head .ensures in
+    let is-plain = is-passed .ensures (passed .0 .taken) in
+    let head = read-head .ensures in
     rw (passed .1, passed .2, passed .3) (
       passes-plain u (cut .next .ensures) (now .mark) (now .inv .2) (is-plain .0) (sym (head .directive) ∙ is-plain .1) (start .pre .1),
       length-set (now .marks) (now .n .0) (now .mark) ∙ now .inv .1,

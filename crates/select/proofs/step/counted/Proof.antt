@@ -16,7 +16,7 @@ returns c = (
         depth = r .depth;
         shallow = r .shallow;
         count = ap (λ i. i + c .before .args .n) (r .count);
-        standings = r .standings;
+        states = r .states;
         lined = r .lined;
         lines-long = r .lines-long;
       },

@@ -4,7 +4,7 @@ use Prim.Native.Nat.{_+_}
 use mathlib.Core.Path.{_≡_, sym, ap, _∙_}
 use mathlib.Core.Bool.{true, false}
 use borrow.Author.Tests.{not-true, not-false}
-use Rattle.condition.specs.Conditions.{says, countOf}
+use Rattle.condition.specs.Conditions.{evaluate, countOf}
 use Rattle.condition.proofs.Counts.{count-small}
 use Rattle.line.specs.Directives.{directiveOf, textOf}
 use Rattle.nesting.specs.Decide.{decided}
@@ -21,8 +21,8 @@ returns c = λ s r.
     let a = c .before .before .before .before .args in
     rw (long-step (a .table .now) (a .n .0) s (a .line .now) (c .before .if1 .taken)) (c .refused .ensures)
 
-standing-requires : tie.Need-standing-requires
-standing-requires c κs = search needs
+group-state-requires : tie.Need-group-state-requires
+group-state-requires c κs = search needs
 
 reads-requires : tie.Need-reads-requires
 reads-requires c κs = search needs
@@ -38,7 +38,7 @@ returns-2 c = λ s r.
     let a = start .args in
     let head = start .pre .4 in
     let unread = sym (c .before .before .reads .ensures) ∙ not-true _ (c .before .if2 .taken) in
-    let q = read-as (a .table .now) (a .n .0) s (a .line .now) _ _ false (head .directive) (asked .standing .ensures s r) unread in
+    let q = read-as (a .table .now) (a .n .0) s (a .line .now) _ _ false (head .directive) (asked .group-state .ensures s r) unread in
     rw (unread-step (a .table .now) (a .n .0) s (a .line .now) (short .if1 .left) q, ← head .directive) (c .unread .ensures s r)
 
 text-requires : tie.Need-text-requires
@@ -46,8 +46,8 @@ text-requires c κs =
     let start = c .before .before .before .before .before .before .before in
     start .pre .4 .within
 
-says-requires : tie.Need-says-requires
-says-requires c κs = search needs
+evaluate-requires : tie.Need-evaluate-requires
+evaluate-requires c κs = search needs
 
 count-of-requires : tie.Need-count-of-requires
 count-of-requires c κs = search needs
@@ -56,7 +56,7 @@ counted-requires : tie.Need-counted-requires
 counted-requires c κs =
     let start = c .before .before .before .before .before .before .before .before .before .before in
     let small = count-small (start .args .table .now) (start .args .head .directive) (c .before .before .text .result .now) in
-    omega (arith, c .count-of .ensures, ap countOf (c .before .says .ensures), small, start .pre .3)
+    omega (arith, c .count-of .ensures, ap countOf (c .before .evaluate .ensures), small, start .pre .3)
 
 decide-requires : tie.Need-decide-requires
 decide-requires c κs = search needs
@@ -74,13 +74,13 @@ returns-3 c = λ s r.
     let head = start .pre .4 in
     let l = a .line .now in
     let is-read = sym (read .before .reads .ensures) ∙ not-false _ (read .if2 .left) in
-    let q = read-as (a .table .now) (a .n .0) s l _ _ true (head .directive) (asked .standing .ensures s r) is-read in
+    let q = read-as (a .table .now) (a .n .0) s l _ _ true (head .directive) (asked .group-state .ensures s r) is-read in
     let handed = text .text .ensures (head .starts (other-read _ _ q)) in
-    let y : said .says .result ≡ says (a .table .now) (directiveOf l) (textOf l) = said .says .ensures ∙ rw (head .directive, handed .bytes) in
+    let y : said .evaluate .result ≡ evaluate (a .table .now) (directiveOf l) (textOf l) = said .evaluate .ensures ∙ rw (head .directive, handed .bytes) in
     let m = c .before .decide .ensures _ (c .before .before .counted .ensures .1 s r) in
     rw (read-step (a .table .now) (a .n .0) s l (short .if1 .left) q, ← y, ← count .count-of .ensures, ← head .directive)
     (went-on (a .x) (c .before .before .counted .result) (c .before .decide .result)
-    (decided (a .head .directive) (said .says .result) (a .n .0) (s .count + count .count-of .result) (s .groups)) m (c .if3 .taken))
+    (decided (a .head .directive) (said .evaluate .result) (a .n .0) (s .count + count .count-of .result) (s .groups)) m (c .if3 .taken))
 
 refused-requires-2 : tie.Need-refused-requires-2
 refused-requires-2 c κs = search needs
@@ -99,13 +99,13 @@ returns-4 c = λ s r.
     let head = start .pre .4 in
     let l = a .line .now in
     let is-read = sym (read .before .reads .ensures) ∙ not-false _ (read .if2 .left) in
-    let q = read-as (a .table .now) (a .n .0) s l _ _ true (head .directive) (asked .standing .ensures s r) is-read in
+    let q = read-as (a .table .now) (a .n .0) s l _ _ true (head .directive) (asked .group-state .ensures s r) is-read in
     let handed = text .text .ensures (head .starts (other-read _ _ q)) in
-    let y : said .says .result ≡ says (a .table .now) (directiveOf l) (textOf l) = said .says .ensures ∙ rw (head .directive, handed .bytes) in
+    let y : said .evaluate .result ≡ evaluate (a .table .now) (directiveOf l) (textOf l) = said .evaluate .ensures ∙ rw (head .directive, handed .bytes) in
     let m = decides .decide .ensures _ (decides .before .counted .ensures .1 s r) in
     rw (read-step (a .table .now) (a .n .0) s l (short .if1 .left) q, ← y, ← count .count-of .ensures, ← head .directive)
     (refused-back (a .x) (decides .before .counted .result) (decides .decide .result) (c .refused2 .result)
-    (decided (a .head .directive) (said .says .result) (a .n .0) (s .count + count .count-of .result) (s .groups)) m (c .before .if3 .left)
+    (decided (a .head .directive) (said .evaluate .result) (a .n .0) (s .count + count .count-of .result) (s .groups)) m (c .before .if3 .left)
     (c .refused2 .ensures))
 
 pub step-spec : {M : Type 1} → statement M
@@ -114,12 +114,12 @@ step-spec =
     (tie.spec
     refused-requires
     returns
-    standing-requires
+    group-state-requires
     reads-requires
     unread-requires
     returns-2
     text-requires
-    says-requires
+    evaluate-requires
     count-of-requires
     counted-requires
     decide-requires

@@ -11,7 +11,8 @@ use Rattle.codes.specs.Codes.{OPEN, QUESTION, COLON}
 use Rattle.grammar.specs.Grammar.{isPrimary}
 use Rattle.codes.specs.Levels.{levelOf}
 use Rattle.grammar.proofs.Inside.{code-inside, primary-inside, level-inside}
-use Rattle.grammar.proofs.Steps.{primary-leaf, primary-none, parentheses-bad, parentheses-open, parentheses-closed, unary-none, expression-bad, choice-none, choice-bad-first, choice-no-colon, choice-bad-second, choice-made}
+use Rattle.grammar.proofs.Steps.{primary-leaf, primary-none, parentheses-bad, parentheses-open, parentheses-closed, unary-none}
+use Rattle.grammar.proofs.Steps.{expression-bad, choice-none, choice-bad-first, choice-no-colon, choice-bad-second, choice-made}
 use Rattle.grammar.proofs.Climb.{found-bad}
 use Rattle.syntax.specs.Order.{codeAt, FILLER}
 use Rattle.syntax.specs.Descent.{back}

@@ -42,7 +42,8 @@ loop-less c = omega arith
 
 loop-again : tie.Need-loop-again Inv-loop μ-loop
 loop-again c =
-    let test = c .before .before .before .loop-test .taken in
+    let loop-test = c .before .before .before .loop-test in
+    let test = loop-test .taken in
     let loop = c .before .before .before .before .loop in
     let start = c .before .before .before .before .before in
     let last = start .args .j .0 in

@@ -1,0 +1,49 @@
+-- The first test that holds decides.
+use borrow.Author.Needs.{needs}
+use Rattle.evaluation.proofs.outcome.check_then_answer.Statement.{statement}
+use Rattle.evaluation.proofs.outcome.check_then_answer.Tie as tie
+
+refused-requires : tie.Need-refused-requires
+refused-requires c κs = search needs
+
+returns : tie.Need-returns
+returns c = λ e t. rw (c .before .if1 .taken) (c .refused .ensures e t)
+
+refused-requires-2 : tie.Need-refused-requires-2
+refused-requires-2 c κs = search needs
+
+returns-2 : tie.Need-returns-2
+returns-2 c = λ e t. rw (c .before .before .if1 .left, c .before .if2 .taken) (c .refused2 .ensures e t)
+
+clashes-requires : tie.Need-clashes-requires
+clashes-requires c κs = search needs
+
+refused-requires-3 : tie.Need-refused-requires-3
+refused-requires-3 c κs = search needs
+
+returns-3 : tie.Need-returns-3
+returns-3 c =
+    let test = c .before .before .before in
+    λ e t. rw (test .before .if1 .left, test .if2 .left, ← c .before .before .clashes .ensures, c .before .if3 .taken) (c .refused3 .ensures e t)
+
+answer-value-requires : tie.Need-answer-value-requires
+answer-value-requires c κs = search needs
+
+returns-4 : tie.Need-returns-4
+returns-4 c =
+    let test = c .before .before .before in
+    λ e t. rw (test .before .if1 .left, test .if2 .left, ← c .before .before .clashes .ensures, c .before .if3 .left) (c .answer-value .ensures e t)
+
+pub check-then-answer-spec : {M : Type 1} → statement M
+check-then-answer-spec =
+    tie.close
+    (tie.spec
+    refused-requires
+    returns
+    refused-requires-2
+    returns-2
+    clashes-requires
+    refused-requires-3
+    returns-3
+    answer-value-requires
+    returns-4)

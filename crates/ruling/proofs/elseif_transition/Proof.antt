@@ -1,0 +1,66 @@
+-- Whether the group is closed and how it stands decides.
+use Rattle.ruling.specs.Rules.{elseifTransition}
+use borrow.Author.Needs.{needs}
+use Rattle.ruling.proofs.elseif_transition.Statement.{statement}
+use Rattle.ruling.proofs.elseif_transition.Tie as tie
+
+returns : tie.Need-returns
+unfolding elseifTransition
+returns c = rw (c .if1 .taken)
+
+enum-told : tie.Need-enum-told
+enum-told c = search needs
+
+enum-told-2 : tie.Need-enum-told-2
+enum-told-2 c = search needs
+
+enum-told-3 : tie.Need-enum-told-3
+enum-told-3 c = search needs
+
+after-elseif-requires : tie.Need-after-elseif-requires
+after-elseif-requires c κs = search needs
+
+enum-told-4 : tie.Need-enum-told-4
+enum-told-4 c = search needs
+
+enum-told-5 : tie.Need-enum-told-5
+enum-told-5 c = search needs
+
+returns-2 : tie.Need-returns-2
+unfolding elseifTransition
+returns-2 c = rw (c .before .before .if1 .left, c .enum-told .given .1)
+
+returns-3 : tie.Need-returns-3
+unfolding elseifTransition
+returns-3 c = rw (c .before .before .if1 .left, c .enum-told2 .given .1)
+
+returns-4 : tie.Need-returns-4
+unfolding elseifTransition
+returns-4 c =
+    let if1 = c .before .before .before .if1 in
+    rw (if1 .left, c .before .enum-told3 .given .1) (c .after-elseif .ensures)
+
+returns-5 : tie.Need-returns-5
+unfolding elseifTransition
+returns-5 c = rw (c .before .before .if1 .left, c .enum-told4 .given .1)
+
+returns-6 : tie.Need-returns-6
+unfolding elseifTransition
+returns-6 c = rw (c .before .before .if1 .left, c .enum-told5 .given .1)
+
+pub elseif-transition-spec : {M : Type 1} → statement M
+elseif-transition-spec =
+    tie.close
+    (tie.spec
+    returns
+    enum-told
+    enum-told-2
+    enum-told-3
+    after-elseif-requires
+    enum-told-4
+    enum-told-5
+    returns-2
+    returns-3
+    returns-4
+    returns-5
+    returns-6)

@@ -1,0 +1,192 @@
+-- Where the kinds suit, a value is of the settled kind, or evaluation met 11 or 12: values never find out anything about kinds that the
+-- kinds did not say before. A law for each form, from the same of its operands. Assumes nothing.
+use Prim.Native.Nat.{ℕ, _+_, _*_, _-_, _/_, _%_, _^_}
+use native.Mathlib.Omega.{arith}
+use mathlib.Core.Path.{_≡_, refl, sym, ap, _∙_}
+use mathlib.Core.Logic.{inl, inr}
+use mathlib.Core.Bool.{Bool, true, false, _&&_, and-false}
+use mathlib.Core.List.{List}
+use lib.Dec.{eqb, ltb, leb}
+use borrow.Author.Tests.{eqb-true, ltb-true}
+use Rattle.units.specs.Refusals.{RESULT-RANGE, DIVISOR-ZERO}
+use Rattle.text.specs.Bytes.{pick}
+use Rattle.text.proofs.Laws.{pick-case}
+use Rattle.token.specs.Tokens.{Token}
+use Rattle.arithmetic.specs.Operators.{Unary, negation, complement, minus, plus, applyUnary, unary, Binary, times, over, remainder, sum}
+use Rattle.arithmetic.specs.Operators.{less, left, right, bit-and, bit-xor, bit-or, and, xor, or, applyBinary, binary}
+use Rattle.arithmetic.specs.declared.Outcome.{Outcome}
+use Rattle.arithmetic.specs.declared.Outcome.the-variants.{Number as Result, Refused}
+use Rattle.value.specs.Kinds.{kindNumber, isNumber, alikeKinds, compares, unaryKind, binaryKind, choiceKind}
+use Rattle.value.specs.Values.{Value, number, string, wide, fault, kindOf, resultOf, unaryValue, skips, bothValues, binaryValue, choiceValue}
+use Rattle.value.specs.Attributes.{Attributes, primaryOf, unaryFrom, binaryFrom, choiceFrom}
+use Rattle.soundness.specs.Settled.{RuntimeRefusal, HasKind, KindSound}
+use Rattle.value.specs.declared.Kind.{Kind}
+use Rattle.value.specs.declared.Kind.the-variants.{Number, String, Wide, Clash}
+
+-- a result, where it is given
+Timely : Outcome → Type 0
+Timely (Result x) = Unit
+Timely (Refused n) = RuntimeRefusal n
+
+result-suits : (r : Outcome) → Timely r → HasKind Number (resultOf r)
+unfolding Timely
+result-suits (Result x) h = refl
+result-suits (Refused n) h = h
+
+either : (t : Bool) (r s : Outcome) → Timely r → Timely s → Timely (pick t r s)
+either true r s h k = h
+either false r s h k = k
+
+changed-timely : (o : Unary) (x : ℕ) → Timely (applyUnary o x)
+unfolding Timely applyUnary
+changed-timely negation x = tt
+changed-timely complement x = tt
+changed-timely minus x = either (leb x 0) (Result (0 - x)) (Refused RESULT-RANGE) tt (inl refl)
+changed-timely plus x = tt
+
+ranged-timely : (v : ℕ) → Timely (pick (ltb v (2 ^ 64)) (Result v) (Refused RESULT-RANGE))
+unfolding Timely
+ranged-timely v = either (ltb v (2 ^ 64)) (Result v) (Refused RESULT-RANGE) tt (inl refl)
+
+divided-timely : (y v : ℕ) → Timely (pick (eqb y 0) (Refused DIVISOR-ZERO) (Result v))
+unfolding Timely
+divided-timely y v = either (eqb y 0) (Refused DIVISOR-ZERO) (Result v) (inr refl) tt
+
+applied-timely : (o : Binary) (x y : ℕ) → Timely (applyBinary o x y)
+unfolding Timely applyBinary
+applied-timely times x y = ranged-timely (x * y)
+applied-timely over x y = divided-timely y (x / y)
+applied-timely remainder x y = divided-timely y (x % y)
+applied-timely sum x y = ranged-timely (x + y)
+applied-timely less x y = either (leb y x) (Result (x - y)) (Refused RESULT-RANGE) tt (inl refl)
+applied-timely left x y = ranged-timely (x * 2 ^ y)
+applied-timely right x y = tt
+applied-timely bit-and x y = tt
+applied-timely bit-xor x y = tt
+applied-timely bit-or x y = tt
+applied-timely and x y = tt
+applied-timely xor x y = tt
+applied-timely or x y = tt
+
+-- a primary: its kind is its value's
+leaf-suits : (v : Value) → (kindOf v ≡ Clash → ⊥) → HasKind (kindOf v) v
+leaf-suits (number x) n = refl
+leaf-suits (string p s) n = refl
+leaf-suits (wide p s) n = refl
+leaf-suits (fault r) n = absurd (n refl)
+
+-- a unary operator: a number becomes a number
+number-suits : (o : ℕ) (v : Value) → HasKind Number v → HasKind Number (unaryValue o v)
+unfolding unaryValue
+number-suits o (number x) h = result-suits (applyUnary (unary o) x) (changed-timely (unary o) x)
+number-suits o (string p s) h = absurd (omega (arith, ap kindNumber h))
+number-suits o (wide p s) h = absurd (omega (arith, ap kindNumber h))
+number-suits o (fault n) h = h
+
+unary-suits : (o : ℕ) (k : Kind) (v : Value) → ((k ≡ Clash → ⊥) → HasKind k v) → (unaryKind k ≡ Clash → ⊥) → HasKind (unaryKind k) (unaryValue o v)
+unfolding unaryKind
+unary-suits o Number v h n = number-suits o v (h (λ e. omega (arith, ap kindNumber e)))
+unary-suits o String v h n = absurd (n refl)
+unary-suits o Wide v h n = absurd (n refl)
+unary-suits o Clash v h n = absurd (n refl)
+
+-- a binary operator: kinds that cannot suit it
+mixed : (t : Bool) → pick (pick t false false) Number Clash ≡ Clash
+mixed true = refl
+mixed false = refl
+
+clash-left : (o : ℕ) (k : Kind) → binaryKind o Clash k ≡ Clash
+unfolding binaryKind
+clash-left o k = rw (and-false (eqb 3 (kindNumber k)), mixed (compares o))
+
+clash-right : (o : ℕ) (j : Kind) → binaryKind o j Clash ≡ Clash
+unfolding binaryKind
+clash-right o Number = mixed (compares o)
+clash-right o String = mixed (compares o)
+clash-right o Wide = mixed (compares o)
+clash-right o Clash = mixed (compares o)
+
+-- a kind that suits is a number's
+binary-number : (o : ℕ) (j k : Kind) → (binaryKind o j k ≡ Clash → ⊥) → binaryKind o j k ≡ Number
+unfolding binaryKind
+binary-number o j k =
+    pick-case (λ (x : Kind). (x ≡ Clash → ⊥) → x ≡ Number) (pick (compares o) (alikeKinds j k) (isNumber j && isNumber k)) (λ _ _. refl)
+    (λ _ n. absurd (n refl))
+
+module _ (o : ℕ) (j k : Kind) (n : binaryKind o j k ≡ Clash → ⊥) where
+  -- both operands are there
+  both-suit : (v w : Value) → HasKind j v → HasKind k w → HasKind Number (bothValues o v w)
+  unfolding binaryKind bothValues
+  both-suit (number x) (number y) h i =
+      pick-case (λ (z : Value). HasKind Number z) (compares o) (λ _. refl) (λ _. result-suits (applyBinary (binary o) x y) (applied-timely (binary o) x y))
+  both-suit (number x) (string q t) h i = absurd (n (rw (h, i, mixed (compares o))))
+  both-suit (number x) (wide q t) h i = absurd (n (rw (h, i, mixed (compares o))))
+  both-suit (number x) (fault r) h i = i
+  both-suit (string p s) (number y) h i = absurd (n (rw (h, i, mixed (compares o))))
+  both-suit (string p s) (string q t) h i = pick-case (λ (z : Value). HasKind Number z) (compares o) (λ _. refl) (λ e. absurd (n (rw (h, i, e))))
+  both-suit (string p s) (wide q t) h i = absurd (n (rw (h, i, mixed (compares o))))
+  both-suit (string p s) (fault r) h i = i
+  both-suit (wide p s) (number y) h i = absurd (n (rw (h, i, mixed (compares o))))
+  both-suit (wide p s) (string q t) h i = absurd (n (rw (h, i, mixed (compares o))))
+  both-suit (wide p s) (wide q t) h i = pick-case (λ (z : Value). HasKind Number z) (compares o) (λ _. refl) (λ e. absurd (n (rw (h, i, e))))
+  both-suit (wide p s) (fault r) h i = i
+  both-suit (fault r) w h i = h
+
+  binary-suits : (v w : Value) → ((j ≡ Clash → ⊥) → HasKind j v) → ((k ≡ Clash → ⊥) → HasKind k w) → HasKind (binaryKind o j k) (binaryValue o v w)
+  unfolding binaryValue
+  binary-suits v w h i =
+      let l = h (λ e. n (rw e (clash-left o k))) in
+      let r = i (λ e. n (rw e (clash-right o j))) in
+      rw (binary-number o j k n) (pick-case (λ (z : Value). HasKind Number z) (skips o v) (λ _. refl) (λ _. both-suit v w l r))
+
+-- kinds are told by their numbers
+kind-numbered : ℕ → Kind
+kind-numbered n = pick (eqb n 0) Number (pick (eqb n 1) String (pick (eqb n 2) Wide Clash))
+
+told : (k : Kind) → kind-numbered (kindNumber k) ≡ k
+unfolding kind-numbered
+told Number = refl
+told String = refl
+told Wide = refl
+told Clash = refl
+
+same-kind : (j k : Kind) → eqb (kindNumber j) (kindNumber k) ≡ true → j ≡ k
+same-kind j k e = sym (told j) ∙ ap kind-numbered (eqb-true (kindNumber j) (kindNumber k) e) ∙ told k
+
+-- a choice: the test is a number, and the arms are of one kind, which is its own
+module _ (i j k : Kind) (n : choiceKind i j k ≡ Clash → ⊥) where
+  -- what a choice of kinds is, with its test apart
+  choice-suits : (u v w : Value) → ((i ≡ Clash → ⊥) → HasKind i u) → ((j ≡ Clash → ⊥) → HasKind j v) → ((k ≡ Clash → ⊥) → HasKind k w)
+      → HasKind (choiceKind i j k) (choiceValue u v w)
+  unfolding choiceKind choiceValue
+  choice-suits u v w f g h = by (eqb (kindNumber i) 0) refl (eqb (kindNumber j) (kindNumber k)) refl (ltb (kindNumber j) 3) refl u f
+    where
+      by : (a : Bool) → eqb (kindNumber i) 0 ≡ a → (b : Bool) → eqb (kindNumber j) (kindNumber k) ≡ b → (c : Bool) → ltb (kindNumber j) 3 ≡ c
+          → (u : Value) → ((i ≡ Clash → ⊥) → HasKind i u) → HasKind (choiceKind i j k) (choiceValue u v w)
+      by false p b q c r u f = absurd (n (rw p))
+      by true p false q c r u f = absurd (n (rw (p, q)))
+      by true p true q false r u f = absurd (n (rw (p, q, r)))
+      by true p true q true r u f = rw (p, q, r) (chosen u (f (λ e. omega (arith, ap kindNumber e, eqb-true (kindNumber i) 0 p))))
+        where
+          live : j ≡ Clash → ⊥
+          live e = omega (arith, ap kindNumber e, ltb-true (kindNumber j) 3 r)
+
+          chosen : (u : Value) → HasKind i u → HasKind j (choiceValue u v w)
+          chosen (number x) s = pick-case (λ (z : Value). HasKind j z) (eqb x 0) (λ _. rw (same-kind j k q) (h (λ e. live (same-kind j k q ∙ e)))) (λ _. g live)
+          chosen (string l s) t = absurd (omega (arith, ap kindNumber t, eqb-true (kindNumber i) 0 p))
+          chosen (wide l s) t = absurd (omega (arith, ap kindNumber t, eqb-true (kindNumber i) 0 p))
+          chosen (fault m) t = t
+
+-- each form, from its operands
+module _ (e t : List ℕ) where
+  pub primary-kind-sound : (k : Token) → KindSound (primaryOf e t k)
+  primary-kind-sound k = leaf-suits (primaryOf e t k .value)
+
+pub unary-kind-sound : (o : ℕ) (a : Attributes) → KindSound a → KindSound (unaryFrom o a)
+unary-kind-sound o a h = unary-suits o (a .kind) (a .value) h
+
+pub binary-kind-sound : (o : ℕ) (a b : Attributes) → KindSound a → KindSound b → KindSound (binaryFrom o a b)
+binary-kind-sound o a b h i n = binary-suits o (a .kind) (b .kind) n (a .value) (b .value) h i
+
+pub choice-kind-sound : (c a b : Attributes) → KindSound c → KindSound a → KindSound b → KindSound (choiceFrom c a b)
+choice-kind-sound c a b f g h n = choice-suits (c .kind) (a .kind) (b .kind) n (c .value) (a .value) (b .value) f g h

@@ -1,0 +1,19 @@
+-- Kind and value are those of the definition; the count is one more.
+use borrow.Author.Needs.{needs}
+use Rattle.value.proofs.forms.of_unary.Statement.{statement}
+use Rattle.value.proofs.forms.of_unary.Tie as tie
+
+of-unary-requires : tie.Need-of-unary-requires
+of-unary-requires c κs = search needs
+
+unary-requires : tie.Need-unary-requires
+unary-requires c κs = search needs
+
+add-t7 : tie.Need-add-t7
+add-t7 c = search needs
+
+returns : tie.Need-returns
+returns c = λ e t. rw (c .before .before .of-unary .ensures, c .before .unary .ensures e t)
+
+pub of-unary-spec : {M : Type 1} → statement M
+of-unary-spec = tie.close (tie.spec of-unary-requires unary-requires add-t7 returns)

@@ -1,0 +1,13 @@
+-- The kind is the value's.
+use borrow.Author.Needs.{needs}
+use Rattle.value.proofs.forms.plain.Statement.{statement}
+use Rattle.value.proofs.forms.plain.Tie as tie
+
+kind-of-requires : tie.Need-kind-of-requires
+kind-of-requires c κs = search needs
+
+returns : tie.Need-returns
+returns c = λ e t. rw (c .kind-of .ensures e t)
+
+pub plain-spec : {M : Type 1} → statement M
+plain-spec = tie.close (tie.spec kind-of-requires returns)
