@@ -24,7 +24,8 @@ ghost use Rattle.grammar.specs.Parse.{parse};
 ghost use Rattle.value.specs.Denote.{denoteValue, denoteAttributes};
 ghost use Rattle.expression.specs.Meaning.{codeOf, meaning};
 ghost use Rattle.expression.specs.Parsing.{tokenAt, Ready};
-ghost use Rattle.evaluation.specs.Evaluation.{refusedWith, answerValue, clashes as clashesOf, checkThenAnswer, answerTokens, evaluation, denoteAnswer, HandsBack};
+ghost use Rattle.evaluation.specs.Evaluation.{refusedWith, answerValue, clashes as clashesOf, checkThenAnswer, answerTokens};
+ghost use Rattle.evaluation.specs.Evaluation.{evaluation, denoteAnswer, HandsBack};
 
 fn refused(number: u8) -> Answer
     ensures { λ r. ⌜ ((e t : List ℕ) → denoteAnswer e t r ≡ refusedWith number) ⌝ }
