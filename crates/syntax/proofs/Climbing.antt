@@ -17,8 +17,8 @@ use Rattle.syntax.proofs.Orders.{ended, put-long, found, after, passed,
 pub read : {o d l : ℕ} → o ≡ d → l ≡ levelOf o → levelOf d ≡ l
 read e f = ap levelOf (sym e) ∙ sym f
 
--- After the first operand, which ends at token at₀ with m₀ entries in o₀, the loop is at token at, with m entries in o: what was found is an
--- operand of a level up to `low`, and what extends it extends the first operand.
+-- After the first operand, which ends at token at₀ with m₀ entries in o₀, the loop is at token at, with m entries in o: what was found is
+-- an operand of a level up to `low`, and what extends it extends the first operand.
 pub record Grown (cs : List ℕ) (n k at₀ m₀ : ℕ) (o₀ : List ℕ) (low at m : ℕ) (o : List ℕ) : Type 0 where
   pub some : 1 ≤ low
   pub within-level : low ≤ k

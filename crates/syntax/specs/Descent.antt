@@ -8,7 +8,7 @@ use Rattle.codes.specs.Levels.{isUnary}
 use Rattle.grammar.specs.Parse.{Goal, bad, got}
 use Rattle.syntax.specs.Order.{codeAt, UNARY, Ordered}
 
--- a fault at a token is returned as the token's number plus BAD, which is no number of a token
+-- a fault at a token is returned as the token's number plus BAD, which is above every token's number
 abbrev pub BAD : ℕ
 BAD = 256
 

@@ -16,8 +16,8 @@ use Rattle.syntax.specs.declared.descent.Postfix.the-variants.{Bad, Orde
 abbrev pub codeAt : List ℕ → ℕ → ℕ → ℕ
 codeAt cs n i = pick (ltb i n) (getD cs i 0) END
 
--- An entry of the order is the number of a token, plus UNARY for a unary operator. A choice has a second entry, FILLER, which has no effect,
--- so that at most every other entry adds an operand.
+-- An entry of the order is the number of a token, plus UNARY for a unary operator. A choice has a second entry, FILLER, which has no
+-- effect, so that at most every other entry adds an operand.
 abbrev pub UNARY : ℕ
 UNARY = 256
 

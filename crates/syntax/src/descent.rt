@@ -32,7 +32,7 @@ fn run_end(codes: &[u8; 200], n: TokenNumber, i: TokenNumber) -> TokenNumber
     TokenNumber(j)
 }
 
-// A fault at a token is returned as the token's number plus this, which is no number of a token.
+// A fault at a token is returned as the token's number plus this, which is above every token's number.
 const BAD: usize = 256;
 
 // Appends an entry to the order.

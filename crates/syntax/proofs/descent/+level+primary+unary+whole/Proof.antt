@@ -97,8 +97,8 @@ level-Inv-loop order₀ filled₀ codes n k at₀ low₀ order filled at low = G
 abbrev level-μ-loop : level-lts.MeasureT-loop
 level-μ-loop order₀ filled₀ codes n k at₀ low₀ order filled at low = n .0 - at
 
--- level: the contexts are its start, `operand` where the first operand was found, `loop`, `operator` where an operator of its levels follows,
--- and `right` where that operator's right operand was found
+-- level: the contexts are its start, `operand` where the first operand was found, `loop`, `operator` where an operator of its levels
+-- follows, and `right` where that operator's right operand was found
 module _ (t : ℕ) where
   -- the level of the operator that follows
   follows : (operator : level-lts.Else3 (level-claims t) (level-at t) level.Post level-Inv-loop level-μ-loop)
@@ -456,8 +456,8 @@ whole-claims t = (
   append-reads.Learnt,
 )
 
--- whole: the contexts are its start, `condition` where an operand of level 12 was found, `question` at a `?` after it, `first` where the first
--- arm was found, `colon` at a `:` after it, and `second` where the second arm was found
+-- whole: the contexts are its start, `condition` where an operand of level 12 was found, `question` at a `?` after it, `first` where the
+-- first arm was found, `colon` at a `:` after it, and `second` where the second arm was found
 module _ (t : ℕ) where
   is-question : (question : whole-lts.Else2 (whole-claims t) (whole-at t) whole.Post)
       → let start = question .before .before .before .before .before .before in
