@@ -8,14 +8,15 @@ use mathlib.Core.List.{List}
 use lib.ListN.{length}
 use Rattle.text.proofs.Laws.{pick-both}
 use Rattle.settings.specs.Table.{wellFormed}
-use Rattle.lookup.specs.Records.{recordUnder}
+use Rattle.lookup.specs.Setting.{recordUnder}
 use Rattle.token.specs.Tokens.{Token, codesOf, reading}
 use Rattle.token.specs.declared.scan.Ending.{Ending}
 use Rattle.token.specs.declared.scan.Ending.the-variants.{Complete, Refused}
 use Rattle.grammar.specs.Grammar.{Tree, expression, Derives}
-use Rattle.grammar.specs.Fold.{fold, trees}
+use Rattle.grammar.specs.Fold.{fold}
 use Rattle.grammar.specs.Bars.{barOutside}
-use Rattle.grammar.specs.Parse.{Outcome, refused as underived, accepted, parse, mapOutcome}
+use Rattle.grammar.specs.Parse.{Outcome, refused as underived, accepted, parse}
+use Rattle.grammar.specs.Decides.{trees, mapOutcome}
 use Rattle.grammar.proofs.Decided.{evaluates, decides}
 use Rattle.grammar.proofs.Preserved.{Preserves}
 use Rattle.grammar.proofs.Related.{paired, Paired, related}

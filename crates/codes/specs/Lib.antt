@@ -1,4 +1,3 @@
 pub mod Codes
 pub mod Spellings
 pub mod Levels
-pub mod Found

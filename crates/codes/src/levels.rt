@@ -2,7 +2,7 @@
 ghost use mathlib.Core.Path.{_≡_};
 ghost use Rattle.codes.specs.Levels.{isUnary, levelOf};
 
-// Whether a token is an operator before its only operand.
+// Whether a token is a unary operator.
 pub fn is_unary(c: u8) -> bool
     ensures { λ r. ⌜ r ≡ isUnary c ⌝ }
 {
@@ -12,7 +12,7 @@ pub fn is_unary(c: u8) -> bool
     if c <= crate::MINUS { true } else { false }
 }
 
-// The level of each code: 99 where it is no binary operator.
+// The level of each code: 99 if it is no binary operator.
 const LEVELS: [u8; 36] = [
     99,
     99,
@@ -52,7 +52,7 @@ const LEVELS: [u8; 36] = [
     12,
 ];
 
-// The level of a binary operator.
+// The level of a binary operator, 99 for any other token.
 pub fn level_of(c: u8) -> u8
     ensures { λ r. ⌜ r ≡ levelOf c ⌝ }
 {

@@ -1,4 +1,4 @@
--- What a call gives that refuses a field, finds no room for one, or stores one. Assumes nothing.
+-- The result of a call that refuses a field, has no room for it, or stores it. Assumes nothing.
 use Prim.Native.Nat.{ℕ, _+_, _≤_, _<_}
 use native.Mathlib.Omega.{arith}
 use mathlib.Core.Path.{_≡_, refl}
@@ -24,6 +24,6 @@ module _ {f : Encoding} (b : List ℕ) where
   unfolding fitted
   stores e l h s = rw (e, le-leb _ _ l, h) (record { answer = refl; buffer = s })
 
--- a number that is at most the largest
+-- a number that is at most the largest one
 pub number-fits : (d x : ℕ) {m : ℕ} → d ≤ UINT64 → (d ≡ VOID → ⊥) → m + 1 ≡ limitOf d → x ≤ m → numberField d x ≡ bytes (lowestBytes (widthOf d) x)
 number-fits d x k v h l = rw (le-ltb _ _ k, ne-eqb _ _ v, lt-leb (limitOf d) x (omega arith))

@@ -1,4 +1,4 @@
--- A store underway: what was stored and what is left to store make up the whole. Assumes nothing.
+-- The invariant of a loop that stores: the stored elements and the rest are the whole. Assumes nothing.
 use Prim.Native.Nat.{ℕ, zero, suc, _+_, _*_, _-_, _/_, _%_, _≤_, _<_}
 use native.Mathlib.Omega.{arith}
 use native.Mathlib.Numerals.{add-one}
@@ -10,7 +10,7 @@ use lib.Seq.{sets, length-sets, drop-cons}
 use Rattle.text.specs.Parts.{stored}
 use Rattle.datum.specs.Encoding.{lowestBytes, terminated, widened}
 
--- the list l, once l₀, into which `rest` is left to store from i on, and nothing else of `whole`
+-- the list l, at first l₀, after storing all of `whole` except `rest`, which goes to index i and on
 pub record Storing (whole rest l₀ l : List ℕ) (i : ℕ) : Type 0 where
   pub kept : length l ≡ length l₀
   pub so : stored whole l₀ ≡ sets l i rest
@@ -23,7 +23,7 @@ sets-append [] rest l i = rw add-zero
 sets-append (v ∷ vs) rest l i = sets-append vs rest (set l i v) (suc i) ∙ rw (add-suc, suc-add)
 
 module _ {whole left l₀ l l′ : List ℕ} {i : ℕ} (vs : List ℕ) (e : l′ ≡ sets l i vs) (u : Storing whole left l₀ l i) where
-  -- some elements more
+  -- some more elements
   pub onward : {rest : List ℕ} {j : ℕ} → left ≡ vs ++ rest → j ≡ i + length vs → Storing whole rest l₀ l′ j
   onward {rest} h k =
       record {

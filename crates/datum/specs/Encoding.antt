@@ -29,12 +29,12 @@ UINT32 = 4
 abbrev pub UINT64 : ℕ
 UINT64 = 5
 
--- a field's bytes, or why there are none
+-- the bytes of a field, or the number of a refusal
 pub data Encoding : Type 0 where
   bytes : List ℕ → Encoding
   unfit : ℕ → Encoding
 
--- how many bytes a number takes (asked only of a datum that takes numbers)
+-- the number of bytes of a datum that takes numbers
 unfoldable pub widthOf : ℕ → ℕ
 widthOf d = pick (eqb d UINT16) 2 (pick (eqb d UINT32) 4 (pick (eqb d UINT64) 8 1))
 
@@ -51,12 +51,12 @@ lowestBytes (suc n) x = x % 256 ∷ lowestBytes n (x / 256)
 abbrev pub terminated : List ℕ → List ℕ
 terminated s = s ++ 0 ∷ []
 
--- a wide string in two bytes each, the byte and then zero, and two zero bytes
+-- a wide string: a zero byte after each byte, and two zero bytes at the end
 unfoldable pub widened : List ℕ → List ℕ
 widened [] = 0 ∷ 0 ∷ []
 widened (b ∷ s) = b ∷ 0 ∷ widened s
 
--- a number, and a string's bytes, for a datum: 23 before 24 before 25
+-- the field of a number, and of a string's bytes, by the datum: 23 before 24 before 25
 abbrev pub numberField : (datum : ℕ) → ℕ → Encoding
 numberField d x =
     pick (ltb UINT64 d) (unfit DATUM-UNKNOWN)
@@ -67,21 +67,21 @@ numberField d x =
 abbrev pub stringField : (datum : ℕ) → List ℕ → Encoding
 stringField d s = pick (ltb UINT64 d) (unfit DATUM-UNKNOWN) (pick (eqb d VOID) (bytes s) (unfit DATUM-KIND))
 
--- what is answered, and what the buffer then holds
+-- the answer, and the buffer after the call
 pub record Field : Type 0 where
   pub answer : Written
   pub buffer : List ℕ
 
--- a refusal leaves every byte of the buffer
+-- a refusal changes no byte of the buffer
 abbrev pub refusedField : ℕ → List ℕ → Field
 refusedField n b = record { answer = Refused (refusal n); buffer = b }
 
--- the bytes at the front of the buffer, the rest as it was; 26 where they have no room
+-- the bytes at the front of the buffer, the rest unchanged; 26 if they have no room
 unfoldable pub fitted : Encoding → (buffer : List ℕ) → Field
 fitted (unfit n) b = refusedField n b
 fitted (bytes s) b = pick (leb (length s) (length b)) (record { answer = Length (length s); buffer = stored s b }) (refusedField BUFFER-SHORT b)
 
--- what a call that writes a field gives: this answer, and the buffer so
+-- the contract of a call that writes a field: its answer and its buffer
 pub record Writes (f : Field) (r : Written) (b : List ℕ) : Type 0 where
   pub answer : r ≡ f .answer
   pub buffer : b ≡ f .buffer

@@ -1,4 +1,4 @@
-// The bytes of one PCD data field: a number, a string or a wide string at the front of a lent buffer, or a refusal.
+// The bytes of one PCD data field: a number, a string or a wide string at the front of the caller's buffer, or a refusal.
 mod sizes;
 mod store;
 pub mod types;
@@ -12,7 +12,7 @@ ghost use Rattle.units.specs.Refusals.{refusal};
 ghost use Rattle.text.specs.Bytes.{pick};
 ghost use Rattle.datum.specs.Encoding.{bytes, unfit, terminated, widened, numberField, stringField, fitted, Writes};
 
-// The length of the field, or the refusal.
+// The length of the field, or a refusal.
 pub enum Written {
     Length(usize),
     Refused(Refusal),
@@ -24,7 +24,7 @@ fn refused(number: u8) -> Written
     Written::Refused(units::refuse(number))
 }
 
-// A number in a datum's bytes.
+// Writes a number.
 pub fn number(buffer: &mut [u8], datum: u8, x: u64) -> Written
     ensures { λ r. ⌜ Writes (fitted (numberField datum x) (now (buffer .entry))) r (now (buffer .exit)) ⌝ }
 {
@@ -45,7 +45,7 @@ pub fn number(buffer: &mut [u8], datum: u8, x: u64) -> Written
     Written::Length(width)
 }
 
-// The number of the refusal where a datum takes no string, 0 where it takes one.
+// The number of the refusal if a datum takes no string, 0 if it takes one.
 fn unsuited(datum: u8) -> u8
     ensures { λ r. ⌜ ((s : List ℕ) → stringField datum s ≡ pick (eqb r 0) (bytes s) (unfit r)) ⌝ }
 {
@@ -59,7 +59,7 @@ fn unsuited(datum: u8) -> u8
     }
 }
 
-// A string and its zero.
+// Writes a string and its zero.
 pub fn string(buffer: &mut [u8], datum: u8, s: &[u8]) -> Written
     ensures { λ r. ⌜ Writes (fitted (stringField datum (terminated (now (s .entry)))) (now (buffer .entry))) r (now (buffer .exit)) ⌝ }
 {
@@ -74,7 +74,7 @@ pub fn string(buffer: &mut [u8], datum: u8, s: &[u8]) -> Written
     Written::Length(s.len() + 1)
 }
 
-// A wide string and its two zeros. The room is halved for the test, since the length of a field without room may be no `usize`.
+// Writes a wide string and its two zeros. The test halves the buffer's length, since the doubled length of the string may overflow `usize`.
 pub fn wide(buffer: &mut [u8], datum: u8, s: &[u8]) -> Written
     ensures { λ r. ⌜ Writes (fitted (stringField datum (widened (now (s .entry)))) (now (buffer .entry))) r (now (buffer .exit)) ⌝ }
 {

@@ -1,10 +1,10 @@
-// The bytes of a datum's numbers, and the largest of them.
+// The width of a datum's numbers, and the largest of them.
 use crate::types;
 ghost use mathlib.Core.Path.{_≡_};
 ghost use Prim.Native.Nat.{_+_};
 ghost use Rattle.datum.specs.Encoding.{widthOf, limitOf};
 
-// How many bytes a number takes.
+// The number of bytes of a datum that takes numbers.
 pub fn width_of(datum: u8) -> usize
     ensures { λ r. ⌜ r ≡ widthOf datum ⌝ }
 {
@@ -16,7 +16,7 @@ pub fn width_of(datum: u8) -> usize
     }
 }
 
-// The largest number that a datum takes: the limit itself, 2^64 for UINT64, may be no `u64`.
+// The largest number that a datum takes: the limit itself, 2^64 for UINT64, is no `u64`.
 pub fn most_of(datum: u8) -> u64
     ensures { λ r. ⌜ r + 1 ≡ limitOf datum ⌝ }
 {

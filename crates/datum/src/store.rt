@@ -1,4 +1,4 @@
-// Stores at the front of a lent buffer that has room for them.
+// Stores at the front of a buffer that has room for them.
 ghost use mathlib.Core.Path.{_≡_};
 ghost use mathlib.Core.List.{[], _∷_};
 ghost use Prim.Native.Nat.{_+_, _*_, _≤_, _<_};
@@ -7,7 +7,7 @@ ghost use lib.Seq.{sets};
 ghost use Rattle.text.specs.Parts.{stored};
 ghost use Rattle.datum.specs.Encoding.{lowestBytes, terminated, widened};
 
-// The lowest `n` bytes of a number, the lowest first.
+// Stores the lowest `n` bytes of a number, the lowest first.
 pub fn put_number(buffer: &mut [u8], n: usize, x: u64)
     requires { ⌜ n ≤ length (now buffer) ⌝ }
     ensures { λ r. ⌜ now (buffer .exit) ≡ stored (lowestBytes n x) (now (buffer .entry)) ⌝ }
@@ -21,7 +21,7 @@ pub fn put_number(buffer: &mut [u8], n: usize, x: u64)
     }
 }
 
-// A string and a zero byte.
+// Stores a string and a zero byte.
 pub fn put_string(buffer: &mut [u8], s: &[u8])
     requires { ⌜ length (now s) < length (now buffer) ⌝ }
     ensures { λ r. ⌜ now (buffer .exit) ≡ stored (terminated (now (s .entry))) (now (buffer .entry)) ⌝ }
@@ -34,7 +34,7 @@ pub fn put_string(buffer: &mut [u8], s: &[u8])
     buffer[i] = 0;
 }
 
-// A byte and a zero byte, from a place on.
+// Stores a byte and a zero byte at an offset.
 fn put_pair(buffer: &mut [u8], at: usize, b: u8)
     requires { ⌜ at + 1 < length (now buffer) ⌝ }
     ensures { λ r. ⌜ now (buffer .exit) ≡ sets (now (buffer .entry)) at (b ∷ 0 ∷ []) ⌝ }
@@ -43,7 +43,7 @@ fn put_pair(buffer: &mut [u8], at: usize, b: u8)
     buffer[at + 1] = 0;
 }
 
-// A string in two bytes each, and two zero bytes.
+// Stores a zero byte after each byte of a string, and two zero bytes at the end.
 pub fn put_wide(buffer: &mut [u8], s: &[u8])
     requires { ⌜ 2 * length (now s) + 1 < length (now buffer) ⌝ }
     ensures { λ r. ⌜ now (buffer .exit) ≡ stored (widened (now (s .entry))) (now (buffer .entry)) ⌝ }

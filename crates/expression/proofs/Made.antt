@@ -13,7 +13,8 @@ use Rattle.codes.specs.Codes.{OPEN, CLOSE, QUESTION, COLON}
 use Rattle.token.specs.Tokens.{Token}
 use Rattle.codes.specs.Levels.{isUnary, levelOf}
 use Rattle.grammar.specs.Grammar.{Nonterminal, level, expression, isPrimary}
-use Rattle.grammar.specs.Parse.{END, InTable, Goal, find, extend, Result, bad, got, andThen, step, run, size, Yields}
+use Rattle.grammar.specs.Parse.{END, Goal, find, extend, Result, bad, got, andThen, step, run, size, Yields}
+use Rattle.grammar.specs.Decides.{InTable}
 use Rattle.grammar.proofs.Codes.{primary-level, question-level}
 use Rattle.grammar.proofs.Inside.{primary-inside, level-inside, code-inside}
 use Rattle.syntax.specs.Order.{UNARY, FILLER, postfix, Ordered}

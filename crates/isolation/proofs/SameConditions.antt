@@ -4,11 +4,10 @@ use mathlib.Core.Path.{_≡_, refl, sym, ap, _∙_}
 use mathlib.Core.Bool.{Bool, true, false}
 use mathlib.Core.List.{List}
 use Rattle.settings.specs.Table.{wellFormed}
-use Rattle.lookup.specs.Records.{recordUnder, Content, number as number-in, string as string-in, wide as wide-in, missing, contentIn, contentOf}
-use Rattle.lookup.specs.Setting.{settingUnder}
+use Rattle.lookup.specs.Setting.{settingUnder, recordUnder}
 use Rattle.lookup.specs.declared.Setting.{Setting}
 use Rattle.lookup.specs.declared.Setting.the-variants.{Number, String, Wide, Missing}
-use Rattle.lookup.proofs.Records.{under-content}
+use Rattle.lookup.proofs.Records.{Content, number as number-in, string as string-in, wide as wide-in, missing, contentIn, contentOf, under-content}
 use Rattle.value.specs.Values.{number, string, wide, fault, isMissing}
 use Rattle.evaluation.specs.Evaluation.{Evaluation, value, refused, evaluation}
 use Rattle.answers.proofs.Isolated.{erasePlacesIn, isolated}

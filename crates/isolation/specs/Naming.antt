@@ -6,7 +6,7 @@ use mathlib.Core.List.{List}
 use lib.ListN.{take, drop}
 use Rattle.text.specs.Runs.{span}
 use Rattle.text.specs.declared.runs.Set.the-variants.{Blanks}
-use Rattle.lookup.specs.Records.{recordUnder}
+use Rattle.lookup.specs.Setting.{recordUnder}
 use Rattle.answers.specs.Names.{Names}
 use Rattle.line.specs.declared.Directive.{Directive}
 use Rattle.line.specs.declared.Directive.the-variants.{Plain, If, Ifdef, Ifndef, Elseif, Else, Endif, Unknown}

@@ -1,3 +1,3 @@
-pub mod Laws
+pub mod RecordUnderName
 pub mod Within
 pub mod Records

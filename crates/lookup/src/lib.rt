@@ -1,4 +1,4 @@
-// What a table of settings has under a name.
+// The setting under a name in a table of settings.
 use text::bytes;
 use text::order;
 use text::runs;
@@ -13,13 +13,13 @@ ghost use Rattle.text.specs.declared.runs.Set.the-variants.{NonZero};
 ghost use Rattle.settings.specs.Table.{unpadded};
 ghost use Rattle.lookup.specs.Setting.{littleEndian, settingAt, LooksUp};
 
-// A part of the table: where a string stands.
+// The place of a string in the table.
 pub struct Part {
     pub start: Offset,
     pub len: usize,
 }
 
-// What stands under a name.
+// The setting under a name.
 pub enum Setting {
     Number(u64),
     String(Part),
@@ -27,7 +27,7 @@ pub enum Setting {
     Missing,
 }
 
-// Whether a name without zero bytes is the one in a record's name field.
+// Whether a record's name field has this name, which has no zero byte.
 fn has_name(field: &[u8], name: &[u8]) -> bool
     requires { ⌜ span NonZero (now name) ≡ length (now name) ⌝ }
     ensures { λ r. ⌜ r ≡ equal (unpadded (now (field .entry))) (now (name .entry)) ⌝ }
@@ -59,7 +59,7 @@ fn number_in(r: &[u8]) -> u64
         + 256 * (as_u64(r[73]) + 256 * (as_u64(r[74]) + 256 * (as_u64(r[75]) + 256 * high)))
 }
 
-// What a record holds that begins at `at` in the table.
+// The setting of a record that begins at `at` in the table.
 fn setting_at(at: Offset, r: &[u8]) -> Setting
     requires { ⌜ (length (now r) ≡ 128) × (at .0 + 72 < 2 ^ 64) ⌝ }
     ensures { λ s. ⌜ s ≡ settingAt (at .0) (now (r .entry)) ⌝ }
@@ -79,7 +79,7 @@ fn setting_at(at: Offset, r: &[u8]) -> Setting
     }
 }
 
-// What stands under a name.
+// The setting under a name in a table.
 pub fn lookup(table: &[u8], name: &[u8]) -> Setting
     ensures { λ r. ⌜ LooksUp (now (table .entry)) (now (name .entry)) r ⌝ }
 {

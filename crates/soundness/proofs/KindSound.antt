@@ -12,8 +12,8 @@ use Rattle.units.specs.Refusals.{RESULT-RANGE, DIVISOR-ZERO}
 use Rattle.text.specs.Bytes.{pick}
 use Rattle.text.proofs.Laws.{pick-case}
 use Rattle.token.specs.Tokens.{Token}
-use Rattle.arithmetic.specs.Operators.{Unary, negation, complement, minus, plus, applyUnary, unary, Binary, times, over, remainder, sum}
-use Rattle.arithmetic.specs.Operators.{less, left, right, bit-and, bit-xor, bit-or, and, xor, or, applyBinary, binary}
+use Rattle.arithmetic.specs.Operators.{Unary, negation, complement, minus, plus, applyUnary, unary, Binary, product, quotient, remainder, sum}
+use Rattle.arithmetic.specs.Operators.{difference, shift-left, shift-right, bit-and, bit-xor, bit-or, and, xor, or, applyBinary, binary}
 use Rattle.arithmetic.specs.declared.Outcome.{Outcome}
 use Rattle.arithmetic.specs.declared.Outcome.the-variants.{Number as Result, Refused}
 use Rattle.value.specs.Kinds.{kindNumber, isNumber, alikeKinds, compares, unaryKind, binaryKind, choiceKind}
@@ -54,13 +54,13 @@ divided-timely y v = either (eqb y 0) (Refused DIVISOR-ZERO) (Result v) (inr ref
 
 applied-timely : (o : Binary) (x y : ℕ) → Timely (applyBinary o x y)
 unfolding Timely applyBinary
-applied-timely times x y = ranged-timely (x * y)
-applied-timely over x y = divided-timely y (x / y)
+applied-timely product x y = ranged-timely (x * y)
+applied-timely quotient x y = divided-timely y (x / y)
 applied-timely remainder x y = divided-timely y (x % y)
 applied-timely sum x y = ranged-timely (x + y)
-applied-timely less x y = either (leb y x) (Result (x - y)) (Refused RESULT-RANGE) tt (inl refl)
-applied-timely left x y = ranged-timely (x * 2 ^ y)
-applied-timely right x y = tt
+applied-timely difference x y = either (leb y x) (Result (x - y)) (Refused RESULT-RANGE) tt (inl refl)
+applied-timely shift-left x y = ranged-timely (x * 2 ^ y)
+applied-timely shift-right x y = tt
 applied-timely bit-and x y = tt
 applied-timely bit-xor x y = tt
 applied-timely bit-or x y = tt

@@ -8,11 +8,10 @@ use lib.Dec.{eqb}
 use borrow.Author.Tests.{eqb-true}
 use Rattle.text.proofs.Laws.{pick-both}
 use Rattle.codes.specs.Codes.{STRING, WIDE, MACRO, PCD}
-use Rattle.lookup.specs.Setting.{settingUnder}
-use Rattle.lookup.specs.Records.{recordUnder, Content, number as holds, string as holdsString, wide as holdsWide, missing, contentIn, contentOf}
+use Rattle.lookup.specs.Setting.{settingUnder, recordUnder}
 use Rattle.lookup.specs.declared.Setting.{Setting}
 use Rattle.lookup.specs.declared.Setting.the-variants.{Number, String, Wide, Missing}
-use Rattle.lookup.proofs.Records.{under-content}
+use Rattle.lookup.proofs.Records.{Content, number as holds, string as holdsString, wide as holdsWide, missing, contentIn, contentOf, under-content}
 use Rattle.token.specs.Tokens.{Token}
 use Rattle.value.specs.Values.{Value, number, string, wide, fault, kindOf, inExpression, settingIn, nameIn, Naming, primaryValue, isMissing, missingPcd}
 use Rattle.value.specs.Attributes.{primaryOf}

@@ -1,4 +1,4 @@
--- The loop over the operators of a level: what it has added so far, and its ways on and out. Assumes nothing.
+-- The invariant of the loop over the operators of a level, its steps and its exits. Assumes nothing.
 use Prim.Native.Nat.{ℕ, suc, _+_, _≤_, _<_}
 use native.Mathlib.Omega.{arith}
 use mathlib.Core.Path.{_≡_, sym, ap, _∙_}
@@ -13,12 +13,12 @@ use Rattle.syntax.specs.Order.{codeAt, postfix, Ordered}
 use Rattle.syntax.specs.Descent.{Fit, Appended, Appends}
 use Rattle.syntax.proofs.Orders.{ended, put-long, found, after, passed, extra, both}
 
--- the level of a token's code that was read
+-- the level of the code of a token
 pub read : {o d l : ℕ} → o ≡ d → l ≡ levelOf o → levelOf d ≡ l
 read e f = ap levelOf (sym e) ∙ sym f
 
--- After the first operand, which ends at token at₀ with m₀ entries in o₀, the loop has come to token at, with m entries in o: what was found
--- is an operand of a level up to `low`, and what extends it extends the first operand.
+-- After the first operand, which ends at token at₀ with m₀ entries in o₀, the loop is at token at, with m entries in o: what was found is
+-- an operand of a level up to `low`, and what extends it extends the first operand.
 pub record Grown (cs : List ℕ) (n k at₀ m₀ : ℕ) (o₀ : List ℕ) (low at m : ℕ) (o : List ℕ) : Type 0 where
   pub some : 1 ≤ low
   pub within-level : low ≤ k
@@ -48,7 +48,7 @@ begun {m = m} {o = o} h l e =
 
 module _ {cs : List ℕ} {n k : ℕ} (top : k ≤ 12) {i m₀ : ℕ} {o₀ : List ℕ} {at₁ m₁ : ℕ} {o₁ : List ℕ} (first : Appended cs n (find (level 1) i) i m₀ o₀ at₁ m₁ o₁)
     {low at m : ℕ} {o : List ℕ} (g : Grown cs n k at₁ m₁ o₁ low at m o) where
-  -- no operator of the levels that are left follows
+  -- no operator of the other levels follows
   pub stays : Fit n i m₀ o₀ → ((x : ℕ) → low ≤ x → x < k → levelOf (codeAt cs n at) ≡ suc x → ⊥) → Appends cs n (find (level k) i) i m₀ o₀ at m o
   stays f none =
       let entries = first .entries ++ g .more in
@@ -67,13 +67,13 @@ module _ {cs : List ℕ} {n k : ℕ} (top : k ≤ 12) {i m₀ : ℕ} {o₀ : Lis
   room f l = record { few = f .few; within = omega (arith, l); room = omega (arith, g .most, first .most, f .room); long = g .long }
 
   module _ {e : ℕ} (above : low ≤ e) (below : e < k) (follows : levelOf (codeAt cs n at) ≡ suc e) where
-    -- in its right operand something goes wrong
+    -- its right operand has a fault
     pub refused : (z : ℕ) → Ordered cs n (find (level e) (at + 1)) (bad z) → Ordered cs n (find (level k) i) (bad z)
     refused z u =
         let rest = joined-bad (ended cs n) low e k (first .entries ++ g .more) at above below top follows z u in
         climbed (ended cs n) i (omega arith) top (first .made) (g .goes (first .entries) _ rest)
 
-    -- its right operand was found, and the operator's entry added
+    -- its right operand was found, and the operator's entry appended
     pub extended : {q m₂ : ℕ} {o₂ : List ℕ} → Appended cs n (find (level e) (at + 1)) (at + 1) m o q m₂ o₂ → m₂ < 200
         → {m₃ : ℕ} {o₃ : List ℕ} → o₃ ≡ set o₂ m₂ at → m₃ ≡ m₂ + 1 → Grown cs n k at₁ m₁ o₁ e q m₃ o₃
     extended {q = q} {m₂ = m₂} {o₂ = o₂} right h e₃ f₃ =

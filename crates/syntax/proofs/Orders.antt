@@ -1,4 +1,4 @@
--- Entries of the order as they are added, and the runs of unary operators in it. Assumes nothing.
+-- Entries appended to the order, and the runs of unary operators in it. Assumes nothing.
 use Prim.Native.Nat.{ℕ, zero, suc, _+_, _-_, _≤_, _<_}
 use native.Mathlib.Numerals.{add-one}
 use native.Mathlib.Omega.{arith}
@@ -10,16 +10,17 @@ use lib.Seq.{take-suc-set}
 use borrow.Author.Tests.{le-ltb}
 use Rattle.codes.specs.Levels.{isUnary}
 use Rattle.grammar.specs.Grammar.{Nonterminal, level}
-use Rattle.grammar.specs.Parse.{Ends, InTable, Goal, bad, got, find}
+use Rattle.grammar.specs.Parse.{Ends, Goal, bad, got, find}
+use Rattle.grammar.specs.Decides.{InTable}
 use Rattle.grammar.proofs.Steps.{moved, unary-bad, unary-made}
 use Rattle.syntax.specs.Order.{codeAt, UNARY, FILLER, Ordered}
 use Rattle.syntax.specs.Descent.{BAD, Fit, Appended, Appends, back}
 
--- past the tokens stands the end
+-- after the last token the code is END
 pub ended : (cs : List ℕ) (n : ℕ) → Ends (codeAt cs n) (λ i. i) n
 ended cs n = record { past = λ i h. rw (le-ltb i n h) }
 
--- one entry more
+-- one more entry
 pub put : (o p s : List ℕ) (m x : ℕ) {o′ : List ℕ} {m′ : ℕ} → o′ ≡ set o m x → m′ ≡ m + 1 → m < length o → take m o ≡ p ++ s → take m′ o′ ≡ p ++ (s ++ (x ∷ []))
 put o p s m x e f h g = rw (e, f, add-one m, take-suc-set o m x h, g) (append-assoc p s (x ∷ []))
 
@@ -39,7 +40,7 @@ unfolding back
 no-back j = let e : j - j ≡ 0 = omega arith in rw e
 
 module _ (cs : List ℕ) (n : ℕ) where
-  -- an operand after a run, in which nothing goes wrong or something does
+  -- an operand after a run, found or with a fault
   pub applied : (l : List ℕ) (q m i j : ℕ) → i + m ≡ j → ((x : ℕ) → i ≤ x → x < j → isUnary (codeAt cs n x) ≡ true)
       → Ordered cs n (find (level 1) j) (got l q)
       → Ordered cs n (find (level 1) i) (got (l ++ back m i) q)
@@ -57,7 +58,7 @@ module _ (cs : List ℕ) (n : ℕ) where
   wrong z (suc m) i j q f u =
       unary-bad (ended cs n) i (f i (omega arith) (omega arith)) z (wrong z m (i + 1) j (omega arith) (λ x a b. f x (omega arith) b) u)
 
--- the three ways out of a function of the descent: a fault handed on, a fault of its own, and a part that was found
+-- the three exits of a function of the descent: a fault of a callee, a fault of its own, and a part that was found
 module _ {cs : List ℕ} {n : ℕ} {g : Goal (List ℕ)} {i m : ℕ} {o : List ℕ} {m′ : ℕ} {o′ : List ℕ} where
   pub handed : {r : ℕ} → BAD ≤ r → Ordered cs n g (bad (r - BAD)) → Appends cs n g i m o r m′ o′
   handed h u = record { wrong = λ _. u; right = λ l. absurd (omega arith) }
@@ -79,16 +80,16 @@ pub both : {cs : List ℕ} {n : ℕ} {g : Goal (List ℕ)} {i m : ℕ} {o : List
     {l : List ℕ} → l ≡ take m′ o′ ++ s → l ≡ take m o ++ (p .entries ++ s)
 both {m = m} {o = o} {m′ = m′} {o′ = o′} p s e = after (take m o) (take m′ o′) (p .entries) s e (p .held)
 
--- a part that was found: tokens were passed, and there is room after it
+-- a part that was found has tokens, and there is room after it
 module _ {cs : List ℕ} {n : ℕ} {x : Nonterminal} {i m : ℕ} {o : List ℕ} {r m′ : ℕ} {o′ : List ℕ} (p : Appended cs n (find x i) i m o r m′ o′) where
   pub passed : InTable x → (i < r) × (r ≤ n)
   passed h = moved (ended cs n) (p .made) h
 
-  -- one entry more after its own
+  -- one more entry after its own
   pub extra : (x : ℕ) → m′ < 200 → {o″ : List ℕ} {m″ : ℕ} → o″ ≡ set o′ m′ x → m″ ≡ m′ + 1 → take m″ o″ ≡ take m o ++ (p .entries ++ (x ∷ []))
   extra x h e f = put o′ (take m o) (p .entries) m′ x e f (omega (arith, h, p .long)) (p .held)
 
-  -- for a function that starts after one token more
+  -- for a function that starts one token later
   pub onward : Fit n i m o → r < n → Fit n (r + 1) m′ o′
   onward f l = record { few = f .few; within = omega (arith, l); room = omega (arith, p .most, f .room); long = p .long }
 

@@ -16,7 +16,7 @@ module _ (cs : List ℕ) (n : ℕ) where
   pub empty : (i : ℕ) → i ≤ n → Run cs n i i
   empty i h = record { from = omega arith; to = h; each = λ x f g. absurd (omega arith) }
 
-  -- one operator more after it
+  -- one more operator after it
   pub longer : (i j : ℕ) → Run cs n i j → isUnary (codeAt cs n j) ≡ true → Run cs n i (j + 1)
   longer i j r e =
       let l : j < n = unary-inside (ended cs n) j e in

@@ -1,4 +1,4 @@
--- What the functions of the descent promise each other. No promise about an expression cites this.
+-- The contracts of the functions of the descent. No promise about an expression cites this.
 use Prim.Native.Nat.{ℕ, zero, suc, _+_, _-_, _≤_, _<_}
 use mathlib.Core.Path.{_≡_}
 use mathlib.Core.Bool.{true}
@@ -8,18 +8,18 @@ use Rattle.codes.specs.Levels.{isUnary}
 use Rattle.grammar.specs.Parse.{Goal, bad, got}
 use Rattle.syntax.specs.Order.{codeAt, UNARY, Ordered}
 
--- a fault at a token is its number with this much more, which no token has
+-- a fault at a token is returned as the token's number plus BAD, which is above every token's number
 abbrev pub BAD : ℕ
 BAD = 256
 
--- what a function may assume that starts at token i with m entries written: there are no more entries than tokens before i
+-- the precondition of a function that starts at token i with m entries written: there are at most as many entries as tokens before i
 pub record Fit (n i m : ℕ) (o : List ℕ) : Type 0 where
   pub few : n ≤ 200
   pub within : i ≤ n
   pub room : m ≤ i
   pub long : length o ≡ 200
 
--- a part of the expression that was found from token i to token r, whose entries were added to the m that were there
+-- a part of the expression from token i to token r was found, and its entries were appended to the m entries before
 pub record Appended (cs : List ℕ) (n : ℕ) (g : Goal (List ℕ)) (i m : ℕ) (o : List ℕ) (r m′ : ℕ) (o′ : List ℕ) : Type 0 where
   pub entries : List ℕ
   pub made : Ordered cs n g (got entries r)
@@ -27,7 +27,7 @@ pub record Appended (cs : List ℕ) (n : ℕ) (g : Goal (List ℕ)) (i m : ℕ) 
   pub most : m′ + i ≤ m + r
   pub long : length o′ ≡ 200
 
--- what a function has to answer
+-- the postcondition: a fault, or a part that was found
 pub record Appends (cs : List ℕ) (n : ℕ) (g : Goal (List ℕ)) (i m : ℕ) (o : List ℕ) (r m′ : ℕ) (o′ : List ℕ) : Type 0 where
   pub wrong : BAD ≤ r → Ordered cs n g (bad (r - BAD))
   pub right : r < BAD → Appended cs n g i m o r m′ o′
@@ -43,7 +43,7 @@ unfoldable pub back : (m i : ℕ) → List ℕ
 back zero i = []
 back (suc m) i = back m (suc i) ++ ((UNARY + i) ∷ [])
 
--- what adding the entries of the unary operators from token i to token j has to answer
+-- the postcondition of appending the entries of the unary operators from token i to token j
 pub record AppendsRun (i j m : ℕ) (o : List ℕ) (m′ : ℕ) (o′ : List ℕ) : Type 0 where
   pub held : take m′ o′ ≡ take m o ++ back (j - i) i
   pub most : m′ ≡ m + (j - i)

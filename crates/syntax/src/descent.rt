@@ -1,6 +1,5 @@
 // The recursive descent: a level of the grammar calls tighter ones, and a primary in parentheses the whole expression. It reads the codes
-// of the tokens and writes the postfix order: operands before their operator. No value is looked at, so that a call needs little of the
-// stack.
+// of the tokens and writes the postfix order: operands before their operator. It reads no values, so that a call needs little stack.
 use crate::tokens;
 use codes::levels;
 use units::TokenNumber;
@@ -14,13 +13,13 @@ ghost use Rattle.grammar.specs.Parse.{find};
 ghost use Rattle.syntax.specs.Order.{codeAt, WritesPostfix};
 ghost use Rattle.syntax.specs.Descent.{Fit, Appends, Run, AppendsRun};
 
-// The token at which the expression goes wrong, or the number of entries written and the token after the expression.
+// The token at which parsing fails, or the number of entries written and the token after the expression.
 pub enum Postfix {
     Bad(TokenNumber),
     Order(usize, TokenNumber),
 }
 
-// Where the run of unary operators from token i on ends.
+// The token after the run of unary operators from token i on.
 fn run_end(codes: &[u8; 200], n: TokenNumber, i: TokenNumber) -> TokenNumber
     requires { ⌜ (n .0 ≤ 200) × (i .0 ≤ n .0) ⌝ }
     ensures { λ r. ⌜ Run (now (codes .entry)) (n .0) (i .0) (r .0) ⌝ }
@@ -33,10 +32,10 @@ fn run_end(codes: &[u8; 200], n: TokenNumber, i: TokenNumber) -> TokenNumber
     TokenNumber(j)
 }
 
-// A fault at a token is answered as its number with this much more, which no token has.
+// A fault at a token is returned as the token's number plus this, which is above every token's number.
 const BAD: usize = 256;
 
-// Adds an entry to the order.
+// Appends an entry to the order.
 fn append(order: &mut [u16; 200], filled: &mut usize, x: u16)
     requires { ⌜ now filled < 200 ⌝ }
     ensures { λ r. ⌜ now (order .exit) ≡ set (now (order .entry)) (now (filled .entry)) x ⌝ }
@@ -47,7 +46,7 @@ fn append(order: &mut [u16; 200], filled: &mut usize, x: u16)
     *filled = m + 1;
 }
 
-// Adds the entries of the unary operators from token i to token j, the last one first.
+// Appends the entries of the unary operators from token i to token j, the last one first.
 fn append_run(order: &mut [u16; 200], filled: &mut usize, i: TokenNumber, j: TokenNumber)
     requires { ⌜ (i .0 ≤ j .0) × (j .0 ≤ 200) × (now filled + (j .0 - i .0) ≤ 200) × (length (now order) ≡ 200) ⌝ }
     ensures { λ r. ⌜ AppendsRun (i .0) (j .0) (now (filled .entry)) (now (order .entry)) (now (filled .exit)) (now (order .exit)) ⌝ }
@@ -61,7 +60,7 @@ fn append_run(order: &mut [u16; 200], filled: &mut usize, i: TokenNumber, j: Tok
     }
 }
 
-// What stands from token i on: an operand of level 12, or a choice.
+// The expression from token i on: an operand of level 12, or a choice.
 fn whole(
     order: &mut [u16; 200],
     filled: &mut usize,
@@ -95,9 +94,8 @@ fn whole(
     b
 }
 
-// An operand of level k: operators of that level and of tighter ones. Where the operator after an operand is of a level looser than the one
-// that was reached, and not looser than k, its right operand is of the next tighter level. Levels at which nothing extends the operand are
-// passed over.
+// An operand of level k, by precedence climbing. If the operator after the operand has a level looser than `low` and not looser than k, its
+// right operand is of the next tighter level. Levels at which nothing extends the operand are skipped.
 fn level(
     order: &mut [u16; 200],
     filled: &mut usize,
@@ -133,7 +131,7 @@ fn level(
     }
 }
 
-// An operand of level 1: the run of unary operators in front is passed, and their entries come after those of the primary.
+// An operand of level 1: a run of unary operators and a primary. The entries of the operators come after those of the primary.
 fn unary(
     order: &mut [u16; 200],
     filled: &mut usize,

@@ -1,3 +1,3 @@
-// Syntax: the order in which the operands and operators of an expression are used, from the codes of its tokens alone.
+// Syntax: the postfix order of an expression, from the codes of its tokens only.
 pub mod descent;
 pub mod tokens;

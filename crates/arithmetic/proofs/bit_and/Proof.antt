@@ -1,6 +1,6 @@
--- The machine's operator goes digit by digit.
+-- The machine's operator works digit by digit.
 use borrow.Author.Needs.{needs}
-use Rattle.arithmetic.proofs.Laws.{and-digits}
+use Rattle.arithmetic.proofs.Bits64.{and-digits}
 use Rattle.arithmetic.proofs.bit_and.Statement.{statement}
 use Rattle.arithmetic.proofs.bit_and.Tie as tie
 

@@ -1,6 +1,6 @@
--- The machine's operator goes digit by digit.
+-- The machine's operator works digit by digit.
 use borrow.Author.Needs.{needs}
-use Rattle.arithmetic.proofs.Laws.{or-digits}
+use Rattle.arithmetic.proofs.Bits64.{or-digits}
 use Rattle.arithmetic.proofs.bit_or.Statement.{statement}
 use Rattle.arithmetic.proofs.bit_or.Tie as tie
 

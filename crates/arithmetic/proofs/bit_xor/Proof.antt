@@ -1,6 +1,6 @@
--- The machine's operator goes digit by digit.
+-- The machine's operator works digit by digit.
 use borrow.Author.Needs.{needs}
-use Rattle.arithmetic.proofs.Laws.{xor-digits}
+use Rattle.arithmetic.proofs.Bits64.{xor-digits}
 use Rattle.arithmetic.proofs.bit_xor.Statement.{statement}
 use Rattle.arithmetic.proofs.bit_xor.Tie as tie
 

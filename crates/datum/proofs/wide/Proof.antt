@@ -1,4 +1,4 @@
--- The datum's own test decides first, and then the room.
+-- The datum decides first, then the room in the buffer.
 use native.Mathlib.Omega.{arith}
 use mathlib.Core.Path.{sym, _∙_}
 use borrow.Author.Tests.{eq-eqb, ne-eqb}

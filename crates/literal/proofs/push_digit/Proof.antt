@@ -1,7 +1,7 @@
 -- A quotient decides whether the product and the digit fit 64 bits.
 use mathlib.Core.Path.{sym}
 use native.Mathlib.Omega.{arith}
-use Rattle.literal.proofs.Laws.{sized-fits, sized-large}
+use Rattle.literal.proofs.DigitValues.{sized-fits, sized-large}
 use borrow.Author.Needs.{needs}
 use Rattle.literal.proofs.push_digit.Statement.{statement}
 use Rattle.literal.proofs.push_digit.Tie as tie

@@ -1,4 +1,4 @@
--- A name without zeros is the one in the field exactly if its bytes stand there and a zero, or the end, follows.
+-- A field has a name without zeros exactly if it begins with the name, and a zero or the end follows.
 use borrow.Author.Tests.{eq-eqb, ne-eqb}
 use mathlib.Core.Path.{sym, _∙_}
 use native.Mathlib.Omega.{arith}

@@ -1,6 +1,6 @@
--- The records passed are sound, so those that are left decide.
+-- Invariant: the records before the index are well formed, so the others decide.
 use mathlib.Core.Path.{ap, _≡_, sym, _∙_}
-use Rattle.settings.proofs.Laws.{rest-all, record-length, rest, well-formed-stops, well-formed-goes, well-formed-ends}
+use Rattle.settings.proofs.TableRecords.{rest-all, record-length, rest, well-formed-stops, well-formed-goes, well-formed-ends}
 use borrow.Author.Tests.{not-true, not-false}
 use native.Mathlib.Omega.{arith}
 use borrow.Author.Needs.{needs}

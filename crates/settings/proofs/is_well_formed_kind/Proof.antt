@@ -1,4 +1,4 @@
--- The kind decides which lengths are sound.
+-- The kind decides which lengths are well formed.
 use Rattle.settings.specs.Table.{wellFormedKind}
 use borrow.Author.Tests.{ne-eqb}
 use Rattle.settings.proofs.is_well_formed_kind.Statement.{statement}

@@ -1,9 +1,9 @@
--- The name is what stands before the first zero; the rest has to be zeros.
+-- The name ends at the first zero; the rest has to be zeros.
 use native.Mathlib.Omega.{arith}
 use mathlib.Core.Path.{sym, _∙_}
 use Rattle.text.specs.declared.runs.Set.the-variants.{NonZero}
 use Rattle.text.proofs.Laws.{span-fits}
-use Rattle.settings.proofs.Laws.{named, unnamed}
+use Rattle.settings.proofs.TableRecords.{named, unnamed}
 use borrow.Author.Needs.{needs}
 use Rattle.settings.proofs.is_well_formed_name.Statement.{statement}
 use Rattle.settings.proofs.is_well_formed_name.Tie as tie

@@ -1,9 +1,9 @@
--- The four tests are those of the definition, in order; a sound length leaves the padding within the record.
+-- The four tests are those of the definition, in order; with a well-formed length the padding is within the record.
 use borrow.Author.Tests.{not-true, not-false}
 use mathlib.Core.Path.{sym, _∙_}
 use native.Mathlib.Omega.{arith}
 use Rattle.settings.specs.Table.{wellFormedRecord}
-use Rattle.settings.proofs.Laws.{padded, roomy}
+use Rattle.settings.proofs.TableRecords.{padded, roomy}
 use borrow.Author.Needs.{needs}
 use Rattle.settings.proofs.is_well_formed_record.Statement.{statement}
 use Rattle.settings.proofs.is_well_formed_record.Tie as tie

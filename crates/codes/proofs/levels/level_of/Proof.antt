@@ -1,4 +1,4 @@
--- The table lists the levels; past it stands no binary operator.
+-- The table lists the levels; no binary operator has a code past it.
 use native.Mathlib.Omega.{arith}
 use mathlib.Core.Path.{refl}
 use Rattle.text.proofs.Spans.{same-over, tabled}

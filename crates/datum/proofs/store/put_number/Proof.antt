@@ -1,4 +1,4 @@
--- What is left of the number makes up, with what was stored, all its bytes.
+-- Invariant: the stored bytes and the bytes of the rest of the number are all its bytes.
 use Prim.Native.Nat.{_-_, _%_, _≤_}
 use native.Mathlib.Omega.{arith}
 use native.Mathlib.Nat.{sub-zero}

@@ -1,4 +1,4 @@
--- What is left of the string makes up, with what was stored, the string and its zero.
+-- Invariant: the stored bytes and the rest are the string and its zero.
 use Prim.Native.Nat.{_-_, _≤_}
 use native.Mathlib.Omega.{arith}
 use mathlib.Core.Path.{refl}

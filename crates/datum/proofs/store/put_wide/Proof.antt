@@ -1,4 +1,4 @@
--- What is left of the string makes up, with what was stored, the wide string and its zeros.
+-- Invariant: the stored bytes and the rest are the wide string and its zeros.
 use Prim.Native.Nat.{_*_, _-_, _≤_}
 use native.Mathlib.Omega.{arith}
 use mathlib.Core.Path.{_∙_}

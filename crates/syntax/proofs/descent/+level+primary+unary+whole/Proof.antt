@@ -1,5 +1,5 @@
--- The descent meets its contracts: each way out of a member is a way out of a step of the grammar's parser, whose law it hands the
--- facts at hand. The measure falls since tokens are passed or a tighter level is asked for.
+-- The descent meets its contracts: each exit of a function is a case of a step of the grammar's parser, and follows from the lemma on that
+-- case. The measure decreases: tokens are read, or the level is tighter.
 use Prim.Native.Nat.{ℕ, suc, _+_, _*_, _-_, _<_}
 use native.Mathlib.Omega.{arith}
 use mathlib.Core.Path.{_≡_, sym, ap, _∙_}
@@ -97,8 +97,8 @@ level-Inv-loop order₀ filled₀ codes n k at₀ low₀ order filled at low = G
 abbrev level-μ-loop : level-lts.MeasureT-loop
 level-μ-loop order₀ filled₀ codes n k at₀ low₀ order filled at low = n .0 - at
 
--- level: the contexts are its start, `operand` where the first operand was found, `loop`, `operator` where an operator of its levels follows,
--- and `right` where that operator's right operand was found
+-- level: the contexts are its start, `operand` where the first operand was found, `loop`, `operator` where an operator of its levels
+-- follows, and `right` where that operator's right operand was found
 module _ (t : ℕ) where
   -- the level of the operator that follows
   follows : (operator : level-lts.Else3 (level-claims t) (level-at t) level.Post level-Inv-loop level-μ-loop)
@@ -249,7 +249,7 @@ primary-claims t = (
   whole.Post,
 )
 
--- primary: the contexts are its start, `leaf` where a primary of one token stands, `opened` at a `(`, and `inner` where the expression in
+-- primary: the contexts are its start, `leaf` at a primary of one token, `opened` at a `(`, and `inner` where the expression in
 -- parentheses was found
 module _ (t : ℕ) where
   is-leaf : (leaf : primary-lts.Then1 (primary-claims t) (primary-at t) primary.Post)
@@ -386,7 +386,7 @@ module _ (t : ℕ) where
 abbrev unary-claims : ℕ → unary-lts.Claims
 unary-claims t = (run-end-reads.Asked, run-end-reads.Learnt, primary-below t, primary.Post, append-run-reads.Asked, append-run-reads.Learnt)
 
--- unary: the contexts are its start, `run` where the run of operators was passed, and `operand` where the primary after it was found
+-- unary: the contexts are its start, `run` after the run of operators, and `operand` where the primary after it was found
 module _ (t : ℕ) where
   unary-run-end-requires : unary-lts.Need-run-end-requires (unary-claims t) (unary-at t) unary.Post
   unary-run-end-requires start κs = (start .pre .1 .few, start .pre .1 .within)
@@ -456,8 +456,8 @@ whole-claims t = (
   append-reads.Learnt,
 )
 
--- whole: the contexts are its start, `condition` where an operand of level 12 was found, `question` at a `?` after it, `first` where the first
--- arm was found, `colon` at a `:` after it, and `second` where the second arm was found
+-- whole: the contexts are its start, `condition` where an operand of level 12 was found, `question` at a `?` after it, `first` where the
+-- first arm was found, `colon` at a `:` after it, and `second` where the second arm was found
 module _ (t : ℕ) where
   is-question : (question : whole-lts.Else2 (whole-claims t) (whole-at t) whole.Post)
       → let start = question .before .before .before .before .before .before in

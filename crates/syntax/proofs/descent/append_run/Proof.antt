@@ -1,4 +1,4 @@
--- The loop's invariant: the operators from `at` on are added. The measure is where they start.
+-- Invariant: the entries of the operators from `at` on are appended. The measure is `at`.
 use Prim.Native.Nat.{_+_, _-_, _≤_, _<_}
 use native.Mathlib.Omega.{arith}
 use mathlib.Core.Path.{_≡_}

@@ -1,4 +1,4 @@
--- The loop's invariant: the tokens that were passed are a run. The measure is how many tokens are left.
+-- Invariant: the tokens before the index are a run. The measure is the number of the other tokens.
 use Prim.Native.Nat.{_-_}
 use native.Mathlib.Omega.{arith}
 use mathlib.Core.Path.{_≡_, sym, ap, _∙_}
@@ -34,7 +34,7 @@ add-j c =
     let start = loop .before in
     omega (arith, loop .loop .inv .to, start .pre .0)
 
--- one operator more
+-- one more operator
 unary : (c : tie.Then1 Inv-loop μ-loop)
     → let loop = c .before .before .before in
     let start = loop .before in

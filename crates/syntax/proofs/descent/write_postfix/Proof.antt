@@ -1,4 +1,4 @@
--- The whole expression from token 0 on, with no entry before it. No more entries were written than tokens passed.
+-- The whole expression from token 0 on, with no entry before it. At most as many entries are written as tokens are read.
 use native.Mathlib.Omega.{arith}
 use borrow.Author.Needs.{needs}
 use Rattle.syntax.proofs.Orders.{passed}

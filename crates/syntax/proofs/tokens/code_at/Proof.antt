@@ -1,4 +1,4 @@
--- A token that is there is read; past the tokens stands the code of the end.
+-- A code within the tokens is read; after them the code is END.
 use borrow.Author.Tests.{lt-ltb, le-ltb}
 use borrow.Author.Needs.{needs}
 use Rattle.syntax.proofs.tokens.code_at.Statement.{statement}

@@ -1,4 +1,4 @@
--- From the place reached to the end both are the same; one place at which they differ makes them differ.
+-- Invariant: both are equal from the current index to the end. One index at which they differ makes them differ.
 use Prim.Native.Nat.{_≤_, _+_, _-_}
 use native.Mathlib.Omega.{arith}
 use mathlib.Core.Path.{_≡_, sym, _∙_}
