@@ -22,7 +22,6 @@ use Rattle.value.specs.Values.{Value, number, string, wide, fault}
 use Rattle.value.specs.Attributes.{Attributes}
 use Rattle.expression.specs.Meaning.{codeOf, meaning}
 use Rattle.evaluation.specs.Evaluation.{Evaluation, lineOf, answerValue, clashes, tokenIn, answerTokens, ofTokens, ended, evaluation}
-use Rattle.answers.specs.Answers.{WithoutLine}
 
 -- where reading ended with a refusal, that has line 0
 abbrev EndsSo : Ending → Type 0
@@ -83,7 +82,7 @@ ended-so : (x : Ending) (y : Evaluation) → EndsSo x → LineZero y → LineZer
 ended-so (Refused r) y h k = h
 ended-so Complete y h k = k
 
-pub without-line : (e t : List ℕ) → WithoutLine e t
+pub without-line : (e t : List ℕ) → lineOf (evaluation e t) ≡ 0
 unfolding evaluation ofTokens
 without-line e t =
     pick-case LineZero (wellFormed t)

@@ -13,7 +13,6 @@ use Rattle.line.specs.declared.Directive.{Directive}
 use Rattle.line.specs.declared.Directive.the-variants.{Plain, Elseif, Else, Endif}
 use Rattle.blocks.specs.Blocks.{Blocks, empty, line, group, Branches, endif, elseif, else, linesOf, linesIn, Fits, FitsIn, Derives, depth}
 use Rattle.blocks.specs.Beginnings.{Whole, Innermost}
-use Rattle.blocks.specs.Refused.{OneInnermost}
 use Rattle.blocks.proofs.Unambiguous.{place, place-opens, same-blocks, same-branches, stops-in}
 use Rattle.blocks.proofs.MayFollow.{Rest, nothing-left}
 use Rattle.blocks.proofs.GroupMoves.{Moves, stay, enter, turn, final, leave}
@@ -122,7 +121,7 @@ later ls m k p q h =
     let i = joined (p .opening) (q .opening) e (p .since) (v .0) (q .since) (linesOf (group (q .opening) (f .0) (f .1) empty)) (v .1) (f .2 .lines) in
     never-both (p .opening) (q .opening) (v .0) (c .0) (f .0) (c .1) (f .1) (record { lines = sym i ∙ c .2 .lines; words = c .2 .words }) (f .2 .words)
 
-pub one-innermost : OneInnermost
+pub one-innermost : (ls : List (List ℕ)) (m k : ℕ) → Innermost ls m → Innermost ls k → m ≡ k
 one-innermost ls m k p q = by (ltb m k) refl (ltb k m) refl
   where
     by : (a : Bool) → ltb m k ≡ a → (b : Bool) → ltb k m ≡ b → m ≡ k

@@ -17,8 +17,7 @@ use Rattle.nesting.specs.Groups.{Group, group as entry}
 use Rattle.nesting.specs.Decide.{State, state}
 use Rattle.select.specs.Select.{Result, accepted, prepend, run, start}
 use Rattle.blocks.specs.Blocks.{Derives, depth}
-use Rattle.blocks.specs.Meaning.{closing, meaning}
-use Rattle.blocks.specs.Decides.{WithinLimit, resultOf}
+use Rattle.blocks.specs.Meaning.{closing, meaning, WithinLimit, resultOf}
 use Rattle.blocks.specs.Refused.{Passable}
 use Rattle.blocks.proofs.Passing.{Passes}
 use Rattle.blocks.proofs.Continuation.{onto, onto-accepted, follow}

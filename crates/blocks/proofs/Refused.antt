@@ -2,7 +2,7 @@
 use Prim.Native.Nat.{ℕ, _+_, _≤_, _<_}
 use native.Mathlib.Omega.{arith}
 use mathlib.Core.Path.{_≡_, refl, sym, ap, _∙_, subst}
-use mathlib.Core.Logic.{_⊎_, inl, inr}
+use mathlib.Core.Logic.{_↔_, _⊎_, inl, inr}
 use mathlib.Core.Bool.{Bool, true, false, false≢true}
 use mathlib.Core.List.{List, [], _∷_, _++_}
 use lib.ListN.{length}
@@ -19,10 +19,9 @@ use Rattle.select.specs.Select.{Result, accepted, refused, run, start}
 use Rattle.select.proofs.LimitsCorrect.{never}
 use Rattle.select.proofs.Steps.{long-step, decided-step}
 use Rattle.blocks.specs.Blocks.{Blocks, opens, Derives, depth}
-use Rattle.blocks.specs.Meaning.{fault, meaning}
+use Rattle.blocks.specs.Meaning.{fault, meaning, resultOf, WithinLimit}
 use Rattle.blocks.specs.Beginnings.{Whole}
-use Rattle.blocks.specs.Decides.{WithinLimit, resultOf}
-use Rattle.blocks.specs.Refused.{Refuses, long, unknown, stray, deep, faulty, RefusedAt, RefusedAtEnd, Refused}
+use Rattle.blocks.specs.Refused.{Refuses, long, unknown, stray, deep, faulty, RefusedAt, RefusedAtEnd}
 use Rattle.blocks.proofs.Passing.{Passes}
 use Rattle.blocks.proofs.Continuation.{onto, onto-accepted, onto-refused}
 use Rattle.blocks.proofs.RunMeaning.{run-stop}
@@ -211,5 +210,6 @@ module _ (t : List ℕ) (ls : List (List ℕ)) (r n : ℕ) where
       let y = w .0 in
       u .2 ∙ rw (z, y)
 
-pub refused-by-blocks : Refused
+pub refused-by-blocks : (t : List ℕ) (ls : List (List ℕ)) (r n : ℕ)
+    → (run t 1 start ls ≡ refused r n) ↔ (RefusedAt t ls r n ⊎ ((r ≡ 21) × RefusedAtEnd t ls n))
 refused-by-blocks t ls r n = (has-reason t ls r n, refuses-so t ls r n)

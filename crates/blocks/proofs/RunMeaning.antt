@@ -23,8 +23,7 @@ use Rattle.nesting.specs.Decide.{State, state, go, stop, decided}
 use Rattle.select.specs.Step.{step}
 use Rattle.select.specs.Select.{Result, refused, prepend, run}
 use Rattle.blocks.specs.Blocks.{Blocks, empty, line, group, Branches, endif, elseif, else, linesOf, linesIn, Fits, FitsIn, depth, depthIn}
-use Rattle.blocks.specs.Meaning.{Meaning, fault, single, _then_, branch, otherwise, closing, meaning, branches}
-use Rattle.blocks.specs.Decides.{WithinLimit}
+use Rattle.blocks.specs.Meaning.{Meaning, fault, single, _then_, branch, otherwise, closing, meaning, branches, WithinLimit}
 use Rattle.blocks.proofs.Continuation.{follow, follow-ext, follow-none, follow-then, follow-single}
 use Rattle.blocks.proofs.StepByWord.{begun, hears, Inside, wasTaken, step-word, plain-step, opening-step}
 

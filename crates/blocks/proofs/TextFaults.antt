@@ -32,14 +32,14 @@ use Rattle.grammar.specs.Fold.{fold}
 use Rattle.grammar.specs.Bars.{barOutside}
 use Rattle.grammar.specs.Parse.{Outcome, refused as underived, accepted, parse}
 use Rattle.grammar.proofs.Decided.{evaluates}
-use Rattle.value.specs.Values.{Value, number, string, wide, fault}
+use Rattle.value.specs.Values.{Value, number, string, wide, fault, RuntimeRefusal, HasKind}
 use Rattle.value.specs.Attributes.{Attributes}
-use Rattle.soundness.specs.Settled.{RuntimeRefusal, HasKind, KindSound}
+use Rattle.soundness.proofs.KindSound.{KindSound}
 use Rattle.value.specs.declared.Kind.{Kind}
 use Rattle.expression.specs.Meaning.{codeOf, meaning}
 use Rattle.evaluation.specs.Evaluation.{Evaluation, value, refused, answerValue, clashes, checkThenAnswer, tokenIn, answerTokens, ofTokens, ended, evaluation}
 use Rattle.evaluation.proofs.FromTree.{tokens-read}
-use Rattle.answers.proofs.Answered.{kind-sound, alive}
+use Rattle.answers.proofs.AnswersExact.{kind-sound, alive}
 use Rattle.line.specs.Directives.{directiveOf, textOf}
 use Rattle.line.specs.declared.Directive.{Directive}
 use Rattle.line.specs.declared.Directive.the-variants.{Plain, If, Ifdef, Ifndef, Elseif, Else, Endif, Unknown}

@@ -5,7 +5,7 @@ use Rattle.line.specs.Lines.{lines}
 use Rattle.blocks.specs.Blocks.{Derives}
 use Rattle.blocks.specs.Beginnings.{Whole}
 use Rattle.blocks.proofs.Passing.{StrayDerivesNone}
-use Rattle.blocks.specs.Examples.{twoElses, two-elses-refused}
+use Rattle.blocks.specs.BlockExamples.{twoElses, two-elses-refused}
 use Rattle.blocks.proofs.StrayLine.{stray-line}
 
 pub stray-derives-none : StrayDerivesNone

@@ -1,6 +1,6 @@
 -- What blocks mean over a table (document 01, "Lines and directives"): a mark for each line and the number of operators that were applied,
 -- or the first fault. By recursion on blocks, with whether the branch around them is taken.
-use Prim.Native.Nat.{ℕ, _+_}
+use Prim.Native.Nat.{ℕ, _+_, _≤_}
 use mathlib.Core.Bool.{Bool, true, false, not, _&&_}
 use mathlib.Core.List.{List, [], _∷_, _++_}
 use lib.ListN.{length}
@@ -10,6 +10,7 @@ use Rattle.line.specs.declared.Directive.the-variants.{Elseif, Else, Endif}
 use Rattle.condition.specs.Conditions.{evaluate}
 use Rattle.line.specs.declared.Condition.{Condition}
 use Rattle.line.specs.declared.Condition.the-variants.{Holds, Fails, Refused}
+use Rattle.select.specs.Select.{Result, accepted, refused}
 use Rattle.blocks.specs.Blocks.{Blocks, empty, line, group, Branches, endif, elseif, else}
 
 -- The marks of lines and their count of operators; or the number of the first fault and how many of the lines come before it. Marks: 0
@@ -67,3 +68,13 @@ unfoldable mutual
       branch (around && not earlier) (evaluate t Elseif (textOf l)) earlier (λ live. meaning t live body) (λ earlier′. branches t around earlier′ os)
   branches t around earlier (else l body e) =
       branch around (otherwise earlier (evaluate t Else (textOf l))) earlier (λ live. meaning t live body) (λ _. closing around (evaluate t Endif (textOf e)))
+
+-- the result of a run over lines with this meaning: a fault is refused at its line, and lines count from 1
+abbrev pub resultOf : Meaning → Result
+resultOf (means ms c) = accepted ms c
+resultOf (fault r i) = refused r (i + 1)
+
+-- no line is over 1,024 bytes (document 01, refusal 17)
+abbrev pub WithinLimit : List (List ℕ) → Type 0
+WithinLimit [] = Unit
+WithinLimit (l ∷ ls) = (length l ≤ 1024) × WithinLimit ls

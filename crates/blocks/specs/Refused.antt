@@ -2,16 +2,13 @@
 -- the proof. The refusals before any line (1, 14, 15, 16) are in the definition of `selection`.
 use Prim.Native.Nat.{ℕ, _+_, _≤_, _<_}
 use mathlib.Core.Path.{_≡_}
-use mathlib.Core.Logic.{_↔_, _⊎_}
 use mathlib.Core.Bool.{true}
 use mathlib.Core.List.{List, [], _∷_, _++_}
 use lib.ListN.{length}
 use Rattle.line.specs.Directives.{directiveOf}
 use Rattle.line.specs.declared.Directive.the-variants.{Unknown}
-use Rattle.select.specs.Select.{refused, run, start}
 use Rattle.blocks.specs.Blocks.{Blocks, opens, Derives, depth}
-use Rattle.blocks.specs.Meaning.{means, fault, meaning}
-use Rattle.blocks.specs.Decides.{WithinLimit}
+use Rattle.blocks.specs.Meaning.{means, fault, meaning, WithinLimit}
 use Rattle.blocks.specs.Beginnings.{Whole, Begins, Innermost}
 
 -- none of these lines is refused over a table t: with some lines after them they derive blocks within the limits that mean no fault
@@ -57,16 +54,3 @@ pub record RefusedAtEnd (t : List ℕ) (ls : List (List ℕ)) (n : ℕ) : Type 0
   pub passable : Passable t ls
   pub unfinished : Whole ls → ⊥
   pub innermost : Innermost ls n
-
--- a run is refused with a number and a line exactly if blocks say so
-abbrev pub Refused : Type 0
-Refused = (t : List ℕ) (ls : List (List ℕ)) (r n : ℕ)
-    → (run t 1 start ls ≡ refused r n) ↔ (RefusedAt t ls r n ⊎ ((r ≡ 21) × RefusedAtEnd t ls n))
-
--- no two of the reasons share a number: a fault never has one of 17 to 21
-abbrev pub FaultNumbers : Type 0
-FaultNumbers = (t : List ℕ) (bs : Blocks) (r i : ℕ) → meaning t true bs ≡ fault r i → 17 ≤ r → r ≤ 21 → ⊥
-
--- and one line at most is the innermost open `!if`
-abbrev pub OneInnermost : Type 0
-OneInnermost = (ls : List (List ℕ)) (m k : ℕ) → Innermost ls m → Innermost ls k → m ≡ k

@@ -1,7 +1,6 @@
 -- The data field that an expression's value makes (document 01, "Field bytes"). The expression's own refusals come before those of the
 -- datum and the buffer. The answer is a length; the count of operators is no part of it.
 use Prim.Native.Nat.{ℕ}
-use mathlib.Core.Path.{_≡_}
 use mathlib.Core.List.{List}
 use Rattle.value.specs.Values.{Value, number, string, wide, fault}
 use Rattle.evaluation.specs.Evaluation.{Evaluation, value, refused, evaluation}
@@ -29,7 +28,3 @@ fieldOf e t d b = written (evaluation e t) d b
 abbrev pub lineOf : Written → ℕ
 lineOf (Length n) = 0
 lineOf (Refused r) = r .line .0
-
--- a refusal of a field by itself has line 0 (document 01, "Refusal numbers"); proofs/LineZero.antt has the proof
-abbrev pub WithoutLine : Type 0
-WithoutLine = (e t : List ℕ) (datum : ℕ) (buffer : List ℕ) → lineOf (fieldOf e t datum buffer .answer) ≡ 0

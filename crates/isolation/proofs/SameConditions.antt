@@ -11,11 +11,11 @@ use Rattle.lookup.specs.declared.Setting.the-variants.{Number, String, Wide, Mi
 use Rattle.lookup.proofs.Records.{under-content}
 use Rattle.value.specs.Values.{number, string, wide, fault, isMissing}
 use Rattle.evaluation.specs.Evaluation.{Evaluation, value, refused, evaluation}
-use Rattle.answers.proofs.Isolated.{erasePlacesIn, isolated}
+use Rattle.answers.proofs.AnswerIsolated.{erasePlacesIn, isolated}
 use Rattle.line.specs.declared.Directive.{Directive}
 use Rattle.line.specs.declared.Directive.the-variants.{Plain, If, Ifdef, Ifndef, Elseif, Else, Endif, Unknown}
 use Rattle.condition.specs.Conditions.{ofAnswer, ofExpression, ofNamed, ofMacro, evaluate}
-use Rattle.isolation.specs.Naming.{macroIn, SameRecords}
+use Rattle.isolation.specs.Isolation.{macroIn, SameRecords}
 
 -- an answer's place does not matter to a condition
 erased-condition : (x : Evaluation) → ofAnswer (erasePlacesIn x) ≡ ofAnswer x

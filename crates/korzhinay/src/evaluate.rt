@@ -1,5 +1,5 @@
 // The answer to an expression.
-ghost use Rattle.marshal.specs.Expressions.{Answers};
+ghost use Rattle.marshal.specs.Calls.{Answers};
 
 // The value of an expression over a table: 0 and the value in `out`, or the refusal number, and then `out` is all zeros.
 #[no_mangle]

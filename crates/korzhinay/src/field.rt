@@ -1,5 +1,5 @@
 // The bytes of a data field.
-ghost use Rattle.marshal.specs.FieldCall.{Fills};
+ghost use Rattle.marshal.specs.Calls.{Fills};
 
 // The bytes of a data field: 0, its length, and the field at the buffer's front; or the refusal number, a length of 0, and the buffer
 // as it was.

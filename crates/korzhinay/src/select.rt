@@ -1,5 +1,5 @@
 // The selection of lines.
-ghost use Rattle.marshal.specs.SelectCall.{Marks};
+ghost use Rattle.marshal.specs.Calls.{Marks};
 
 // Marks the lines of a file: 0, the number of lines and the sum of counts in `out`; or the refusal number and its line, and then every mark
 // is 255.

@@ -9,7 +9,7 @@ ghost use Prim.Native.Nat.{ℕ};
 ghost use Rattle.text.specs.Bytes.{pick};
 ghost use Rattle.text.specs.Parts.{stored};
 ghost use Rattle.evaluation.specs.Evaluation.{value as valued, denoteAnswerValue};
-ghost use Rattle.marshal.specs.Expressions.{answerShown, Answers};
+ghost use Rattle.marshal.specs.Calls.{answerShown, Answers};
 
 // A flag as a number.
 fn one_if(flag: bool) -> u64

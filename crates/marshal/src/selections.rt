@@ -4,7 +4,7 @@ use select::selection;
 ghost use mathlib.Core.Path.{_≡_};
 ghost use mathlib.Core.List.{[], _∷_};
 ghost use Rattle.text.specs.Parts.{stored};
-ghost use Rattle.marshal.specs.SelectCall.{Marks};
+ghost use Rattle.marshal.specs.Calls.{Marks};
 
 // Stores the line of a refusal, the number of lines and the sum of counts.
 fn show_run(out: &mut [u64; 3], line: u64, lines: u64, count: u64)

@@ -7,7 +7,7 @@ ghost use Rattle.text.specs.Bytes.{pick};
 ghost use Rattle.settings.specs.Table.{wellFormed};
 ghost use Rattle.lookup.specs.Setting.{settingUnder};
 ghost use Rattle.text.specs.Parts.{stored};
-ghost use Rattle.marshal.specs.Calls.{shown, Shows};
+ghost use Rattle.marshal.specs.Calls.{settingShown, Shows};
 
 // 0 where the table is well formed, else 1.
 pub fn check(table: &[u8]) -> u8
@@ -23,7 +23,7 @@ pub fn check(table: &[u8]) -> u8
 // Stores what stands under a name: its kind, its number or where its string starts, and the string's length.
 fn show(table: &[u8], name: &[u8], out: &mut [u64; 3])
     requires { ⌜ wellFormed (now table) ≡ true ⌝ }
-    ensures { λ r. ⌜ now (out .exit) ≡ stored (shown (settingUnder (now (table .entry)) (now (name .entry)))) (now (out .entry)) ⌝ }
+    ensures { λ r. ⌜ now (out .exit) ≡ stored (settingShown (settingUnder (now (table .entry)) (now (name .entry)))) (now (out .entry)) ⌝ }
 {
     match lookup::lookup(table, name) {
         Setting::Number(value) => {

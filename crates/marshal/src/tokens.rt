@@ -3,11 +3,11 @@ use token::scan;
 use token::scan::Ending;
 ghost use mathlib.Core.Path.{_≡_};
 ghost use Rattle.token.specs.Tokens.{reading};
-ghost use Rattle.marshal.specs.Calls.{Lists, refusalNumber};
+ghost use Rattle.marshal.specs.Calls.{Lists, endingNumber};
 
 // The refusal number of an ending, 0 where nothing was refused.
 fn number_of(ending: Ending) -> u8
-    ensures { λ r. ⌜ r ≡ refusalNumber ending ⌝ }
+    ensures { λ r. ⌜ r ≡ endingNumber ending ⌝ }
 {
     match ending {
         Ending::Complete => 0,

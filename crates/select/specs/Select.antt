@@ -90,10 +90,6 @@ abbrev pub marksOf : (lent : List ℕ) → Result → List ℕ
 marksOf m (accepted ms c) = ms ++ drop (length ms) m
 marksOf m (refused k n) = replicate (length m) 255
 
--- an accepted selection has a mark for each line
-abbrev pub MarksEachLine : Type 0
-MarksEachLine = (f t : List ℕ) (room : ℕ) (ms : List ℕ) (c : ℕ) → selection f t room ≡ accepted ms c → length ms ≡ length (lines f)
-
 -- what a call gives and leaves
 pub record Selects (f t marks : List ℕ) (r : Answer) (marks′ : List ℕ) : Type 0 where
   pub answer : r ≡ answerOf (selection f t (length marks))

@@ -17,11 +17,15 @@ use Rattle.arithmetic.specs.Operators.{less, left, right, bit-and, bit-xor, bit
 use Rattle.arithmetic.specs.declared.Outcome.{Outcome}
 use Rattle.arithmetic.specs.declared.Outcome.the-variants.{Number as Result, Refused}
 use Rattle.value.specs.Kinds.{kindNumber, isNumber, alikeKinds, compares, unaryKind, binaryKind, choiceKind}
-use Rattle.value.specs.Values.{Value, number, string, wide, fault, kindOf, resultOf, unaryValue, skips, bothValues, binaryValue, choiceValue}
+use Rattle.value.specs.Values.{Value, number, string, wide, fault, kindOf, RuntimeRefusal, HasKind, resultOf}
+use Rattle.value.specs.Values.{unaryValue, skips, bothValues, binaryValue, choiceValue}
 use Rattle.value.specs.Attributes.{Attributes, primaryOf, unaryFrom, binaryFrom, choiceFrom}
-use Rattle.soundness.specs.Settled.{RuntimeRefusal, HasKind, KindSound}
 use Rattle.value.specs.declared.Kind.{Kind}
 use Rattle.value.specs.declared.Kind.the-variants.{Number, String, Wide, Clash}
+
+-- attributes whose kind is no clash have a value of that kind, or a refusal of evaluation
+abbrev pub KindSound : Attributes → Type 0
+KindSound a = (a .kind ≡ Clash → ⊥) → HasKind (a .kind) (a .value)
 
 -- a result, where it is given
 Timely : Outcome → Type 0

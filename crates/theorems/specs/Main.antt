@@ -10,7 +10,6 @@ use mathlib.Core.List.{List, map}
 use lib.ListN.{length, getD, take}
 use Rattle.units.specs.Refusals.{TABLE-MALFORMED, NO-DERIVATION}
 use Rattle.units.specs.declared.Refusal.{Refusal}
-use Rattle.text.specs.Bytes.{bytes}
 use Rattle.settings.specs.Table.{wellFormed}
 use Rattle.token.specs.Tokens.{Token, reading}
 use Rattle.token.specs.declared.scan.Ending.the-variants.{Complete, Refused}
@@ -20,14 +19,13 @@ use Rattle.grammar.specs.Bars.{bare, barOutside}
 use Rattle.grammar.specs.Parse.{Reads, parse, accepted as parsed, refused as unparsed}
 use Rattle.grammar.proofs.Decided.{unambiguous, bounded, evaluates}
 use Rattle.grammar.proofs.Bars.{bars-seen}
-use Rattle.value.specs.Values.{Value, kindOf}
-use Rattle.soundness.specs.Settled.{HasKind}
+use Rattle.value.specs.Values.{Value, kindOf, HasKind}
+use Rattle.value.specs.Places.{InBounds}
 use Rattle.value.specs.declared.Kind.the-variants.{Clash}
 use Rattle.expression.specs.Meaning.{codeOf, meaning as attributes}
 use Rattle.evaluation.specs.Evaluation.{value, refused as refusedWhole, refusedWith, lineOf, checkThenAnswer, evaluation}
-use Rattle.answers.specs.Answers.{InBounds}
-use Rattle.answers.proofs.Answered.{unread, exact, counted}
-use Rattle.answers.proofs.Placed.{placed}
+use Rattle.answers.proofs.AnswersExact.{malformed, unreadable as not-read, underived, derived, kind-sound, value-kind, counted}
+use Rattle.answers.proofs.StringsInBounds.{strings-in-bounds}
 use Rattle.answers.proofs.LineZero.{without-line}
 use Rattle.line.specs.Lines.{lines}
 use Rattle.select.specs.Select.{accepted, refused, run, start, selection, Selects}
@@ -35,10 +33,9 @@ use Rattle.select.specs.declared.Answer.{Answer}
 use Rattle.select.specs.declared.Answer.the-variants.{Accepted}
 use Rattle.select.proofs.MarksEachLine.{marks-each-line}
 use Rattle.blocks.specs.Blocks.{Blocks, Derives as DerivesBlocks, depth}
-use Rattle.blocks.specs.Meaning.{means, fault, meaning}
+use Rattle.blocks.specs.Meaning.{means, fault, meaning, resultOf, WithinLimit}
 use Rattle.blocks.specs.Reading.{readsOf}
 use Rattle.blocks.specs.Beginnings.{Innermost}
-use Rattle.blocks.specs.Decides.{WithinLimit, resultOf}
 use Rattle.blocks.specs.Refused.{RefusedAt, RefusedAtEnd}
 use Rattle.blocks.proofs.Decided.{unambiguous as blocks-unambiguous, sound, complete, run-complete}
 use Rattle.blocks.proofs.MarksTellReading.{marks-tell-reading}
@@ -46,7 +43,7 @@ use Rattle.blocks.proofs.Refused.{refused-by-blocks}
 use Rattle.blocks.proofs.FaultNumbers.{fault-numbers}
 use Rattle.blocks.proofs.OneInnermost.{one-innermost}
 use Rattle.isolation.specs.Isolation.{Comparable}
-use Rattle.isolation.proofs.Isolated.{isolation, two-calls}
+use Rattle.isolation.proofs.SelectionIsolated.{isolation, two-calls}
 use Rattle.field.specs.Fields.{fieldOf, lineOf as lineOfField}
 use Rattle.field.proofs.LineZero.{without-line as field-without-line}
 
@@ -59,33 +56,33 @@ one-tree = unambiguous
 
 -- A malformed table is refused with 1, whatever the expression.
 pub malformed-table : (e t : List ℕ) → wellFormed t ≡ false → evaluation e t ≡ refusedWith TABLE-MALFORMED
-malformed-table e t = unread e t .malformed
+malformed-table = malformed
 
 -- Over a well-formed table come next the refusals that reading the tokens meets, 2 to 6.
 pub unreadable : (e t : List ℕ) → wellFormed t ≡ true → (r : Refusal) → reading e .ending ≡ Refused r → evaluation e t ≡ refusedWhole r
-unreadable e t = unread e t .unread
+unreadable = not-read
 
 -- Where none of these is met, 7 is given exactly if no tree derives from all the tokens.
 pub no-derivation : (e t : List ℕ) → wellFormed t ≡ true → reading e .ending ≡ Complete
     → (evaluation e t ≡ refusedWith NO-DERIVATION) ↔ ((s : Tree Token) → Derives codeOf expression (reading e .tokens) s → ⊥)
-no-derivation e t sound complete = exact e t sound complete .underived
+no-derivation = underived
 
 -- Else the tree decides: 8 for a bar outside parentheses, then 9 and 10, else the value and the count that the tree folds to.
 pub tree-decides : (e t : List ℕ) → wellFormed t ≡ true → reading e .ending ≡ Complete
     → (s : Tree Token) (d : Derives codeOf expression (reading e .tokens) s)
     → evaluation e t ≡ checkThenAnswer (bare codeOf d) (fold (attributes e t) s)
-tree-decides e t sound complete = exact e t sound complete .derived
+tree-decides = derived
 
 -- Where the kinds in a tree suit each other, its value is of the tree's kind, or evaluation met 11 or 12.
-pub kinds-settle : (e t : List ℕ) → wellFormed t ≡ true → reading e .ending ≡ Complete
-    → (s : Tree Token) → (fold (attributes e t) s .kind ≡ Clash → ⊥) → HasKind (fold (attributes e t) s .kind) (fold (attributes e t) s .value)
-kinds-settle e t sound complete = exact e t sound complete .kind-sound
+pub kinds-settle : (e t : List ℕ) (s : Tree Token)
+    → (fold (attributes e t) s .kind ≡ Clash → ⊥) → HasKind (fold (attributes e t) s .kind) (fold (attributes e t) s .value)
+kinds-settle = kind-sound
 
 -- So a value that is answered is of the tree's kind, whatever was skipped.
 pub value-has-its-kind : (e t : List ℕ) → wellFormed t ≡ true → reading e .ending ≡ Complete
     → (s : Tree Token) → Derives codeOf expression (reading e .tokens) s
     → (v : Value) (n : ℕ) → evaluation e t ≡ value v n → kindOf v ≡ fold (attributes e t) s .kind
-value-has-its-kind e t sound complete = exact e t sound complete .value-kind
+value-has-its-kind = value-kind
 
 -- With a value, fewer operators were applied than the expression has tokens.
 pub count-below-tokens : (e t : List ℕ) (v : Value) (n : ℕ) → evaluation e t ≡ value v n → n < length (reading e .tokens)
@@ -93,7 +90,7 @@ count-below-tokens = counted
 
 -- A string that is answered has the bytes at its place, and the place lies within the expression or the table.
 pub string-at-its-place : (e t : List ℕ) (v : Value) (n : ℕ) → evaluation e t ≡ value v n → InBounds e t v
-string-at-its-place = placed
+string-at-its-place = strings-in-bounds
 
 -- The answer to an expression has line 0, also where it is a refusal; so has the answer of a data field.
 pub expression-has-no-line : (e t : List ℕ) → lineOf (evaluation e t) ≡ 0

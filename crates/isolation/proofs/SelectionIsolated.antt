@@ -21,7 +21,7 @@ use Rattle.select.specs.Step.{readCondition, step}
 use Rattle.select.specs.Select.{Result, accepted, refused, start, selection, numberOfLines, Selects}
 use Rattle.select.specs.declared.Answer.{Answer}
 use Rattle.select.specs.declared.Answer.the-variants.{Accepted}
-use Rattle.isolation.specs.Isolation.{Read, Agrees, Isolation, TwoCalls}
+use Rattle.isolation.specs.Isolation.{Read, Agrees, Comparable}
 use Rattle.isolation.proofs.SameConditions.{same-condition}
 use Rattle.isolation.proofs.Simulation.{Like, AllLike, same-run}
 use Rattle.select.proofs.LimitsCorrect.{runs, accepted-runs, accepted-sound}
@@ -37,7 +37,8 @@ agree-like t₁ t₂ sound₁ sound₂ m l₁ l₂ h a =
           (same-condition t₁ t₂ (textOf l₁) sound₁ sound₂ (directiveOf l₁) (a .records r));
     }
 
-pub isolation : Isolation
+pub isolation : (f₁ t₁ : List ℕ) (room₁ : ℕ) (ms : List ℕ) (c : ℕ) → selection f₁ t₁ room₁ ≡ accepted ms c
+    → (f₂ t₂ : List ℕ) (room₂ : ℕ) → Comparable f₁ t₁ ms f₂ t₂ room₂ → selection f₂ t₂ room₂ ≡ accepted ms c
 isolation f₁ t₁ room₁ ms c h f₂ t₂ room₂ k =
     let p = accepted-runs f₁ t₁ room₁ ms c h in
     let like : AllLike t₁ t₂ ms (lines f₁) (lines f₂) = λ i l.
@@ -87,7 +88,11 @@ accepted-call f t marks r left h n c e = by (selection f t (length marks)) refl
         let k : take n left ≡ ms = ap (take n) m ∙ take-at ms (drop (length ms) marks) n i in
         (rw (k, j) q, ap length k ∙ i)
 
-pub two-calls : TwoCalls
+pub two-calls : (f₁ t₁ marks₁ : List ℕ) (r₁ : Answer) (left₁ : List ℕ) → Selects f₁ t₁ marks₁ r₁ left₁
+    → (n c : ℕ) → r₁ ≡ Accepted (record { 0 = n }) c
+    → (f₂ t₂ marks₂ : List ℕ) (r₂ : Answer) (left₂ : List ℕ) → Selects f₂ t₂ marks₂ r₂ left₂
+    → Comparable f₁ t₁ (take n left₁) f₂ t₂ (length marks₂)
+    → (r₂ ≡ Accepted (record { 0 = n }) c) × (take n left₂ ≡ take n left₁)
 two-calls f₁ t₁ marks₁ r₁ left₁ h₁ n c e f₂ t₂ marks₂ r₂ left₂ h₂ k =
     let p = accepted-call f₁ t₁ marks₁ r₁ left₁ h₁ n c e in
     let q = isolation f₁ t₁ (length marks₁) (take n left₁) c (p .0) f₂ t₂ (length marks₂) k in

@@ -32,7 +32,7 @@ use Rattle.ruling.specs.Rules.{elseifTransition, elseTransition, endTransition}
 use Rattle.nesting.specs.Decide.{opening, decided}
 use Rattle.select.specs.Step.{readCondition, step}
 use Rattle.select.specs.Select.{refused, run, start, selection}
-use Rattle.select.specs.Examples.{setting, file}
+use Rattle.blocks.specs.SelectionExamples.{setting, file}
 use Rattle.blocks.specs.Blocks.{Blocks, empty, line, group, elseif, else, Derives}
 use Rattle.blocks.specs.Meaning.{Meaning, means, fault, meaning}
 use Rattle.blocks.specs.Reading.{readsOf}

@@ -1,31 +1,31 @@
 -- The promises of specs/Answers.antt. The grammar's parser decides what derives and makes what the tree folds to; what is added here is
 -- that no later refusal is 7, since where kinds suit evaluation meets 11 and 12 alone.
-use Prim.Native.Nat.{ℕ}
+use Prim.Native.Nat.{ℕ, _<_}
 use native.Mathlib.Omega.{arith}
 use mathlib.Core.Path.{_≡_, refl, sym, ap, _∙_}
-use mathlib.Core.Logic.{inl, inr}
+use mathlib.Core.Logic.{_↔_, inl, inr}
 use mathlib.Core.Bool.{Bool, true, false, false≢true}
 use mathlib.Core.List.{List}
-use Rattle.units.specs.Refusals.{NO-DERIVATION, refusal}
+use lib.ListN.{length}
+use Rattle.units.specs.Refusals.{TABLE-MALFORMED, NO-DERIVATION, refusal}
+use Rattle.units.specs.declared.Refusal.{Refusal}
 use Rattle.text.proofs.Laws.{pick-case}
 use Rattle.settings.specs.Table.{wellFormed}
 use Rattle.token.specs.Tokens.{Token, reading}
-use Rattle.token.specs.declared.scan.Ending.the-variants.{Complete}
+use Rattle.token.specs.declared.scan.Ending.the-variants.{Complete, Refused}
 use Rattle.grammar.specs.Grammar.{Tree, Leaf, Unary, Binary, Choice, expression, Derives}
 use Rattle.grammar.specs.Fold.{fold}
 use Rattle.grammar.specs.Bars.{bare}
 use Rattle.grammar.proofs.Decided.{evaluates}
 use Rattle.grammar.proofs.Bars.{bars-seen}
-use Rattle.value.specs.Values.{Value, number, string, wide, fault, kindOf}
+use Rattle.value.specs.Values.{Value, number, string, wide, fault, kindOf, RuntimeRefusal, HasKind}
 use Rattle.value.specs.Attributes.{Attributes}
 use Rattle.value.specs.declared.Kind.{Kind}
 use Rattle.value.specs.declared.Kind.the-variants.{Clash}
-use Rattle.soundness.specs.Settled.{RuntimeRefusal, HasKind, KindSound}
-use Rattle.soundness.proofs.KindSound.{primary-kind-sound, unary-kind-sound, binary-kind-sound, choice-kind-sound}
+use Rattle.soundness.proofs.KindSound.{KindSound, primary-kind-sound, unary-kind-sound, binary-kind-sound, choice-kind-sound}
 use Rattle.expression.specs.Meaning.{codeOf, meaning}
-use Rattle.evaluation.specs.Evaluation.{Evaluation, refusalNumber, value, refusedWith, answerValue, clashes, checkThenAnswer, ofTokens, evaluation}
+use Rattle.evaluation.specs.Evaluation.{Evaluation, refusalNumber, value, refused, refusedWith, answerValue, clashes, checkThenAnswer, ofTokens, evaluation}
 use Rattle.evaluation.proofs.FromTree.{Told, never, judged-tells, tokens-read, counted as counts-below}
-use Rattle.answers.specs.Answers.{Unread, Exact, Counted}
 
 -- every tree is settled, from its leaves up
 pub kind-sound : (e t : List ℕ) (s : Tree Token) → KindSound (fold (meaning e t) s)
@@ -68,36 +68,44 @@ told-kind : (v : Value) (n : ℕ) (a : Attributes) → KindSound a → Told v n 
 told-kind v n a h w = suited-kind (a .kind) v n (rw (w .value) (h (alive (a .kind) (w .suited)))) (w .given)
 
 module _ (e t : List ℕ) where
-  pub unread : Unread e t
+  pub malformed : wellFormed t ≡ false → evaluation e t ≡ refusedWith TABLE-MALFORMED
   unfolding evaluation
-  unread = record { malformed = λ h. rw h; unread = λ h r k. rw (h, k) }
+  malformed h = rw h
 
-  module _ (sound : wellFormed t ≡ true) (complete : reading e .ending ≡ Complete) where
-    by-tokens : evaluation e t ≡ ofTokens e t (reading e .tokens)
+  module _ (sound : wellFormed t ≡ true) where
+    pub unreadable : (r : Refusal) → reading e .ending ≡ Refused r → evaluation e t ≡ refused r
     unfolding evaluation
-    by-tokens = rw (sound, complete)
+    unreadable r k = rw (sound, k)
 
-    derived : (s : Tree Token) (d : Derives codeOf expression (reading e .tokens) s) → evaluation e t ≡ checkThenAnswer (bare codeOf d) (fold (meaning e t) s)
-    unfolding ofTokens
-    derived s d =
-        by-tokens ∙ rw (evaluates (tokens-read e t) (meaning e t) .accepted-exactly (fold (meaning e t) s) .1 (s, d, refl), bars-seen codeOf d)
+    module _ (complete : reading e .ending ≡ Complete) where
+      by-tokens : evaluation e t ≡ ofTokens e t (reading e .tokens)
+      unfolding evaluation
+      by-tokens = rw (sound, complete)
 
-    none : evaluation e t ≡ refusedWith NO-DERIVATION → (s : Tree Token) → Derives codeOf expression (reading e .tokens) s → ⊥
-    none h s d = judged-not-7 (bare codeOf d) (fold (meaning e t) s) (kind-sound e t s) (ap refusalNumber (sym (derived s d) ∙ h))
+      -- the tree decides
+      pub derived : (s : Tree Token) (d : Derives codeOf expression (reading e .tokens) s)
+          → evaluation e t ≡ checkThenAnswer (bare codeOf d) (fold (meaning e t) s)
+      unfolding ofTokens
+      derived s d =
+          by-tokens ∙ rw (evaluates (tokens-read e t) (meaning e t) .accepted-exactly (fold (meaning e t) s) .1 (s, d, refl), bars-seen codeOf d)
 
-    refused-7 : ((s : Tree Token) → Derives codeOf expression (reading e .tokens) s → ⊥) → evaluation e t ≡ refusedWith NO-DERIVATION
-    unfolding ofTokens
-    refused-7 h = by-tokens ∙ rw (evaluates (tokens-read e t) (meaning e t) .refused-exactly .1 h .1)
+      none : evaluation e t ≡ refusedWith NO-DERIVATION → (s : Tree Token) → Derives codeOf expression (reading e .tokens) s → ⊥
+      none h s d = judged-not-7 (bare codeOf d) (fold (meaning e t) s) (kind-sound e t s) (ap refusalNumber (sym (derived s d) ∙ h))
 
-    pub exact : Exact e t sound complete
-    exact =
-        record {
-          underived = (none, refused-7);
-          derived = derived;
-          kind-sound = kind-sound e t;
-          value-kind = λ s d v n h. told-kind v n (fold (meaning e t) s) (kind-sound e t s)
-              (judged-tells v n (bare codeOf d) (fold (meaning e t) s) (sym (derived s d) ∙ h));
-        }
+      refused-7 : ((s : Tree Token) → Derives codeOf expression (reading e .tokens) s → ⊥) → evaluation e t ≡ refusedWith NO-DERIVATION
+      unfolding ofTokens
+      refused-7 h = by-tokens ∙ rw (evaluates (tokens-read e t) (meaning e t) .refused-exactly .1 h .1)
 
-pub counted : (e t : List ℕ) → Counted e t
+      -- 7 exactly if there is no derivation
+      pub underived : (evaluation e t ≡ refusedWith NO-DERIVATION) ↔ ((s : Tree Token) → Derives codeOf expression (reading e .tokens) s → ⊥)
+      underived = (none, refused-7)
+
+      -- the value has the kind of the tree
+      pub value-kind : (s : Tree Token) → Derives codeOf expression (reading e .tokens) s
+          → (v : Value) (n : ℕ) → evaluation e t ≡ value v n → kindOf v ≡ fold (meaning e t) s .kind
+      value-kind s d v n h =
+          told-kind v n (fold (meaning e t) s) (kind-sound e t s)
+          (judged-tells v n (bare codeOf d) (fold (meaning e t) s) (sym (derived s d) ∙ h))
+
+pub counted : (e t : List ℕ) (v : Value) (n : ℕ) → evaluation e t ≡ value v n → n < length (reading e .tokens)
 counted = counts-below
