@@ -1,5 +1,5 @@
--- The promises of specs/Answers.antt. The grammar's parser decides what derives and makes what the tree folds to; what is added here is
--- that no later refusal is 7, since where kinds suit evaluation meets 11 and 12 alone.
+-- The answer to an expression in terms of derivations. The grammar's parser decides whether the tokens derive a tree and gives what the
+-- tree folds to. Shown here: no later refusal is 7, since evaluation meets only 11 and 12 if the kinds do not clash. Assumes nothing.
 use Prim.Native.Nat.{ℕ, _<_}
 use native.Mathlib.Omega.{arith}
 use mathlib.Core.Path.{_≡_, refl, sym, ap, _∙_}
@@ -25,9 +25,9 @@ use Rattle.value.specs.declared.Kind.the-variants.{Clash}
 use Rattle.soundness.proofs.KindSound.{KindSound, primary-kind-sound, unary-kind-sound, binary-kind-sound, choice-kind-sound}
 use Rattle.expression.specs.Meaning.{codeOf, meaning}
 use Rattle.evaluation.specs.Evaluation.{Evaluation, refusalNumber, value, refused, refusedWith, answerValue, clashes, checkThenAnswer, ofTokens, evaluation}
-use Rattle.evaluation.proofs.FromTree.{Told, never, judged-tells, tokens-read, counted as counts-below}
+use Rattle.evaluation.proofs.FromTree.{GivenBy, never, check-then-answer-given, tokens-read, counted as counts-below}
 
--- every tree is settled, from its leaves up
+-- the value of a tree has its kind, from the leaves up
 pub kind-sound : (e t : List ℕ) (s : Tree Token) → KindSound (fold (meaning e t) s)
 unfolding fold
 kind-sound e t (Leaf k) = primary-kind-sound e t k
@@ -36,36 +36,36 @@ kind-sound e t (Binary o l r) = binary-kind-sound (o .code) (fold (meaning e t) 
 kind-sound e t (Choice q c a b) =
     choice-kind-sound (fold (meaning e t) c) (fold (meaning e t) a) (fold (meaning e t) b) (kind-sound e t c) (kind-sound e t a) (kind-sound e t b)
 
-late-not-7 : (n : ℕ) → RuntimeRefusal n → n ≡ NO-DERIVATION → ⊥
-late-not-7 n (inl h) e = omega arith
-late-not-7 n (inr h) e = omega arith
+runtime-not-7 : (n : ℕ) → RuntimeRefusal n → n ≡ NO-DERIVATION → ⊥
+runtime-not-7 n (inl h) e = omega arith
+runtime-not-7 n (inr h) e = omega arith
 
-finished-not-7 : (k : Kind) (v : Value) (n : ℕ) → HasKind k v → refusalNumber (answerValue v n) ≡ NO-DERIVATION → ⊥
-finished-not-7 k (number x) n h e = omega arith
-finished-not-7 k (string p s) n h e = omega arith
-finished-not-7 k (wide p s) n h e = omega arith
-finished-not-7 k (fault r) n h e = late-not-7 r h e
+answer-value-not-7 : (k : Kind) (v : Value) (n : ℕ) → HasKind k v → refusalNumber (answerValue v n) ≡ NO-DERIVATION → ⊥
+answer-value-not-7 k (number x) n h e = omega arith
+answer-value-not-7 k (string p s) n h e = omega arith
+answer-value-not-7 k (wide p s) n h e = omega arith
+answer-value-not-7 k (fault r) n h e = runtime-not-7 r h e
 
--- where kinds do not clash
+-- kinds that do not clash
 pub alive : (k : Kind) → clashes k ≡ false → k ≡ Clash → ⊥
 alive k h e = let z = ap clashes e in let y : true ≡ false = sym z ∙ h in false≢true (sym y)
 
-judged-not-7 : (bar : Bool) (a : Attributes) → KindSound a → refusalNumber (checkThenAnswer bar a) ≡ NO-DERIVATION → ⊥
-judged-not-7 bar a h =
+check-then-answer-not-7 : (bar : Bool) (a : Attributes) → KindSound a → refusalNumber (checkThenAnswer bar a) ≡ NO-DERIVATION → ⊥
+check-then-answer-not-7 bar a h =
     pick-case (λ (x : Evaluation). refusalNumber x ≡ NO-DERIVATION → ⊥) bar (λ _ e. omega arith)
     (λ _. pick-case (λ (x : Evaluation). refusalNumber x ≡ NO-DERIVATION → ⊥) (a .missing) (λ _ e. omega arith)
     (λ _. pick-case (λ (x : Evaluation). refusalNumber x ≡ NO-DERIVATION → ⊥) (clashes (a .kind)) (λ _ e. omega arith)
-    (λ c. finished-not-7 (a .kind) (a .value) (a .count) (h (alive (a .kind) c)))))
+    (λ c. answer-value-not-7 (a .kind) (a .value) (a .count) (h (alive (a .kind) c)))))
 
--- a value that is no fault is of the kind that it suits
-suited-kind : (k : Kind) (v : Value) (n : ℕ) → HasKind k v → answerValue v n ≡ value v n → kindOf v ≡ k
-suited-kind k (number x) n h e = sym h
-suited-kind k (string p s) n h e = sym h
-suited-kind k (wide p s) n h e = sym h
-suited-kind k (fault r) n h e = absurd (never (fault r) n (refusal r) e)
+-- a value that is no fault has this kind
+kind-of-value : (k : Kind) (v : Value) (n : ℕ) → HasKind k v → answerValue v n ≡ value v n → kindOf v ≡ k
+kind-of-value k (number x) n h e = sym h
+kind-of-value k (string p s) n h e = sym h
+kind-of-value k (wide p s) n h e = sym h
+kind-of-value k (fault r) n h e = absurd (never (fault r) n (refusal r) e)
 
-told-kind : (v : Value) (n : ℕ) (a : Attributes) → KindSound a → Told v n a → kindOf v ≡ a .kind
-told-kind v n a h w = suited-kind (a .kind) v n (rw (w .value) (h (alive (a .kind) (w .suited)))) (w .given)
+given-kind : (v : Value) (n : ℕ) (a : Attributes) → KindSound a → GivenBy v n a → kindOf v ≡ a .kind
+given-kind v n a h w = kind-of-value (a .kind) v n (rw (w .value) (h (alive (a .kind) (w .suited)))) (w .given)
 
 module _ (e t : List ℕ) where
   pub malformed : wellFormed t ≡ false → evaluation e t ≡ refusedWith TABLE-MALFORMED
@@ -90,7 +90,7 @@ module _ (e t : List ℕ) where
           by-tokens ∙ rw (evaluates (tokens-read e t) (meaning e t) .accepted-exactly (fold (meaning e t) s) .1 (s, d, refl), bars-seen codeOf d)
 
       none : evaluation e t ≡ refusedWith NO-DERIVATION → (s : Tree Token) → Derives codeOf expression (reading e .tokens) s → ⊥
-      none h s d = judged-not-7 (bare codeOf d) (fold (meaning e t) s) (kind-sound e t s) (ap refusalNumber (sym (derived s d) ∙ h))
+      none h s d = check-then-answer-not-7 (bare codeOf d) (fold (meaning e t) s) (kind-sound e t s) (ap refusalNumber (sym (derived s d) ∙ h))
 
       refused-7 : ((s : Tree Token) → Derives codeOf expression (reading e .tokens) s → ⊥) → evaluation e t ≡ refusedWith NO-DERIVATION
       unfolding ofTokens
@@ -104,8 +104,8 @@ module _ (e t : List ℕ) where
       pub value-kind : (s : Tree Token) → Derives codeOf expression (reading e .tokens) s
           → (v : Value) (n : ℕ) → evaluation e t ≡ value v n → kindOf v ≡ fold (meaning e t) s .kind
       value-kind s d v n h =
-          told-kind v n (fold (meaning e t) s) (kind-sound e t s)
-          (judged-tells v n (bare codeOf d) (fold (meaning e t) s) (sym (derived s d) ∙ h))
+          given-kind v n (fold (meaning e t) s) (kind-sound e t s)
+          (check-then-answer-given v n (bare codeOf d) (fold (meaning e t) s) (sym (derived s d) ∙ h))
 
 pub counted : (e t : List ℕ) (v : Value) (n : ℕ) → evaluation e t ≡ value v n → n < length (reading e .tokens)
 counted = counts-below

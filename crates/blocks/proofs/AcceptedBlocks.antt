@@ -1,5 +1,5 @@
--- The lines of an accepted run derive blocks: from the last line back to the first, each line that the run passed goes in front of what may
--- follow after it. Assumes nothing.
+-- The lines of an accepted run derive blocks. The proof goes from the last line back to the first and puts each line before those that may
+-- follow it. Assumes nothing.
 use Prim.Native.Nat.{ℕ, _+_, _≤_}
 use native.Mathlib.Omega.{arith}
 use mathlib.Core.Path.{_≡_, refl}

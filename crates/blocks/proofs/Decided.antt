@@ -1,4 +1,5 @@
--- The promises of specs/Decides.antt, `MarksTellReading` apart. Assumes nothing.
+-- A selection by the blocks of its file: lines derive at most one list of blocks, an accepted selection is the meaning of its blocks, and
+-- lines that derive blocks within the limits are selected as these mean. Assumes nothing.
 use Prim.Native.Nat.{ℕ, _+_, _≤_}
 use native.Mathlib.Omega.{arith}
 use native.Mathlib.Nat.{zero-add, add-comm}
@@ -34,7 +35,7 @@ run-complete t ls bs d h s =
     let e = blocks-go t bs (d .words) w [] (omega arith) [] 1 0 in
     rw (d .lines) (rw append-nil at e ∙ follow-end t (meaning t true bs))
 
--- the meaning of lines of which the result is known
+-- the meaning of lines, from their result
 pub accepted-means : (a : Meaning) (ms : List ℕ) (c : ℕ) → resultOf a ≡ accepted ms c → a ≡ means ms c
 accepted-means (means ns d) ms c e = cc
 accepted-means (fault k i) ms c e = never _ k (i + 1) ms c e

@@ -1,4 +1,4 @@
--- The promise `FaultNumbers`: what blocks mean has no fault from 17 to 21, since no text has. Assumes nothing.
+-- The meaning of blocks is no fault with a number from 17 to 21, since no text has such a fault. Assumes nothing.
 use Prim.Native.Nat.{ℕ, _≤_}
 use mathlib.Core.Path.{_≡_}
 use mathlib.Core.Bool.{Bool, true, false, not, _&&_}

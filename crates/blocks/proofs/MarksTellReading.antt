@@ -1,4 +1,4 @@
--- The marks that blocks mean show which lines are read by blocks. Assumes nothing.
+-- The marks in the meaning of blocks show which lines are read. Assumes nothing.
 use Prim.Native.Nat.{ℕ, zero, suc, _≤_, _<_}
 use native.Mathlib.Omega.{arith}
 use mathlib.Core.Path.{_≡_, refl}
@@ -68,7 +68,7 @@ module _ (reads-body reads-others : Bool → List Bool) (body others : Bool → 
   branch-shows true (Fails n) false = line-shows true 3 n false false (read 3 n (omega arith) (omega arith))
   branch-shows true (Refused k) earlier = tt
 
--- an `!else`, whose text says nothing of its branch
+-- an `!else`, whose condition does not decide its branch
 else-shows : (reads-body : Bool → List Bool) (reads-end : List Bool) (body : Bool → Meaning) (end : Meaning)
     → ((b : Bool) → Shows (reads-body b) (body b)) → Shows reads-end end → (around : Bool) (c : Condition) (earlier : Bool)
     → Shows (around ∷ (reads-body (around && not earlier) ++ reads-end)) (branch around (otherwise earlier c) earlier body (λ _. end))

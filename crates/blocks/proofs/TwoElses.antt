@@ -1,4 +1,4 @@
--- The lines of a run that is refused 19 derive no blocks; so those of the file with two `!else`. Assumes nothing.
+-- The lines of a run that is refused with 19 derive no blocks; an example is the file with two `!else`. Assumes nothing.
 use mathlib.Core.Path.{_≡_, sym, _∙_}
 use mathlib.Core.List.{[], _∷_, _++_, append-assoc}
 use Rattle.line.specs.Lines.{lines}

@@ -1,5 +1,5 @@
--- What blocks mean over a table (document 01, "Lines and directives"): a mark for each line and the number of operators that were applied,
--- or the first fault. By recursion on blocks, with whether the branch around them is taken.
+-- The meaning of blocks over a table (document 01, "Lines and directives"): a mark for each line and the number of operators that were
+-- applied, or the first fault. The recursion goes over blocks, and carries whether the branch around them is taken.
 use Prim.Native.Nat.{ℕ, _+_, _≤_}
 use mathlib.Core.Bool.{Bool, true, false, not, _&&_}
 use mathlib.Core.List.{List, [], _∷_, _++_}
@@ -13,8 +13,8 @@ use Rattle.line.specs.declared.Condition.the-variants.{Holds, Fails, Refused}
 use Rattle.select.specs.Select.{Result, accepted, refused}
 use Rattle.blocks.specs.Blocks.{Blocks, empty, line, group, Branches, endif, elseif, else}
 
--- The marks of lines and their count of operators; or the number of the first fault and how many of the lines come before it. Marks: 0
--- plain, dropped; 1 plain, kept; 2 directive not read; 3 read, branch not taken; 4 read, branch taken; 5 read `!endif`.
+-- The marks of lines and their count of operators; or the number of the first fault and the number of lines before it. Marks: 0 plain line,
+-- dropped; 1 plain line, kept; 2 directive not read; 3 read, branch not taken; 4 read, branch taken; 5 read `!endif`.
 pub data Meaning : Type 0 where
   means : (marks : List ℕ) → (count : ℕ) → Meaning
   fault : (number before : ℕ) → Meaning
@@ -30,8 +30,8 @@ means ms c then means ns d = means (ms ++ ns) (c + d)
 means ms c then fault r i = fault r (length ms + i)
 fault r i then m = fault r i
 
--- A branch: its line, its body, and the other branches after it. What the line's text says counts only where the line is read. The body is
--- given whether this branch is taken, the other branches whether one of the group was taken so far.
+-- A branch: its line, its body, and the branches after it. The condition counts only if the line is read. The argument of `body` is whether
+-- this branch is taken; that of `others` is whether one of the group was taken so far.
 abbrev pub branch : (read : Bool) → Condition → (earlier : Bool) → (body others : Bool → Meaning) → Meaning
 branch false c earlier body others = single 2 0 then body false then others earlier
 branch true (Holds n) earlier body others = single 4 n then body true then others true
@@ -51,9 +51,8 @@ closing true (Holds n) = single 5 n
 closing true (Fails n) = single 5 n
 closing true (Refused r) = fault r 0
 
--- The reading rule: `!if`, `!ifdef`, `!ifndef`, `!else` and `!endif` are read where the branch around their whole group is taken;
--- `!elseif` where, besides, no earlier branch of its group was taken. The blocks of a whole file have no branch around them, which counts as
--- taken.
+-- The reading rule: `!if`, `!ifdef`, `!ifndef`, `!else` and `!endif` are read if the branch around their group is taken; `!elseif` is read
+-- if also no earlier branch of its group was taken. The blocks of a whole file have no branch around them, which counts as taken.
 unfoldable mutual
   pub meaning : (t : List ℕ) → (around : Bool) → Blocks → Meaning
   meaning t around empty = means [] 0

@@ -1,4 +1,4 @@
--- The promise `WithoutLine`: no refusal of a field by itself has a line of its own. Assumes nothing.
+-- The answer of a data field has line 0, also if it is a refusal. Assumes nothing.
 use Prim.Native.Nat.{ℕ}
 use mathlib.Core.Path.{_≡_, refl}
 use mathlib.Core.List.{List}

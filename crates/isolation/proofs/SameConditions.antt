@@ -1,4 +1,4 @@
--- What a text says depends on a well-formed table only through the records under the names that it names. Assumes nothing.
+-- The condition in a text depends on a well-formed table only through the records under the names in the text. Assumes nothing.
 use Prim.Native.Nat.{ℕ}
 use mathlib.Core.Path.{_≡_, refl, sym, ap, _∙_}
 use mathlib.Core.Bool.{Bool, true, false}
@@ -17,7 +17,7 @@ use Rattle.line.specs.declared.Directive.the-variants.{Plain, If, Ifdef, Ifndef
 use Rattle.condition.specs.Conditions.{ofAnswer, ofExpression, ofNamed, ofMacro, evaluate}
 use Rattle.isolation.specs.Isolation.{macroIn, SameRecords}
 
--- an answer's place does not matter to a condition
+-- a condition does not depend on the place in an answer
 erased-condition : (x : Evaluation) → ofAnswer (erasePlacesIn x) ≡ ofAnswer x
 unfolding ofAnswer
 erased-condition (value (number x) n) = refl

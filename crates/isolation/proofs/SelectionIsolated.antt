@@ -1,4 +1,5 @@
--- Isolation of a selection: lines that agree are heard the same, and two runs that hear the same go the same way. Assumes nothing.
+-- Isolation of a selection: lines that agree have the same conditions, and two runs with the same conditions have the same result. Assumes
+-- nothing.
 use Prim.Native.Nat.{ℕ, _+_, _≤_}
 use native.Mathlib.Omega.{arith}
 use mathlib.Core.Path.{_≡_, refl, sym, ap, _∙_}
@@ -33,7 +34,7 @@ agree-like t₁ t₂ sound₁ sound₂ m l₁ l₂ h a =
     record {
       short = h;
       word = a .word;
-      said = λ r. ap (λ l. evaluate t₂ (directiveOf l₁) (textOf l)) (a .bytes r) ∙ sym
+      condition = λ r. ap (λ l. evaluate t₂ (directiveOf l₁) (textOf l)) (a .bytes r) ∙ sym
           (same-condition t₁ t₂ (textOf l₁) sound₁ sound₂ (directiveOf l₁) (a .records r));
     }
 
@@ -47,7 +48,7 @@ isolation f₁ t₁ room₁ ms c h f₂ t₂ room₂ k =
     runs f₂ t₂ room₂ (k .sound) (k .small) (omega (arith, p .1, k .as-many)) (k .enough)
     ∙ same-run t₁ t₂ 1 start (lines f₁) (lines f₂) ms c (k .as-many) like (p .0)
 
--- a line's mark tells whether its directive was read
+-- the mark of a line shows whether its directive was read
 module _ (t : List ℕ) (n : ℕ) (s : State) (l : List ℕ) where
   read-above : reads (directiveOf l) (stateOf (s .groups)) ≡ true → Marked (step t n s l)
   unfolding step
@@ -61,7 +62,7 @@ module _ (t : List ℕ) (n : ℕ) (s : State) (l : List ℕ) where
       pick-case Unmarked (ltb 1024 (length l)) (λ _. tt)
       (λ _. unread-marked (directiveOf l) (readCondition t (s .groups) l) n (s .count + countOf (readCondition t (s .groups) l)) (s .groups) h)
 
--- of a step, by the standing of the innermost group
+-- the same for a step, by the state of the innermost group
 abbrev pub MarksTell : Type 0
 MarksTell = (t : List ℕ) (n : ℕ) (s : State) (l : List ℕ) (m : ℕ) (s′ : State) → step t n s l ≡ go m s′
     → (reads (directiveOf l) (stateOf (s .groups)) ≡ true) ↔ Read m

@@ -26,8 +26,8 @@ macroIn s =
     let n : Named = nameAt m in
     take (n .len) (drop (n .start .0) m)
 
--- A directive that is read, with the text s, names n: a condition names all its macros and PCDs, those of skipped operands too; an `!ifdef` or
--- `!ifndef` names its one macro.
+-- A directive that is read, with the text s, names n: a condition names all its macros and PCDs, those of skipped operands too; an `!ifdef`
+-- or `!ifndef` names its one macro.
 abbrev pub Mentions : Directive → (s n : List ℕ) → Type 0
 Mentions If s n = Names s n
 Mentions Elseif s n = Names s n
@@ -47,9 +47,9 @@ SameRecords t₁ t₂ d s = (n : List ℕ) → Mentions d s n → recordUnder t�
 abbrev pub Read : (mark : ℕ) → Type 0
 Read m = 3 ≤ m
 
--- Line l₂ of the second file agrees with line l₁ of the same number, which has the mark m in the first selection. Both are plain, or both have
--- the same word, where `elif` and `elseif` are one. If the directive was read, the lines have the same bytes, and the tables have the same
--- records under the names in it.
+-- Line l₂ of the second file agrees with line l₁ of the same number, which has the mark m in the first selection. Both are plain, or both
+-- have the same word, where `elif` and `elseif` are one. If the directive was read, the lines have the same bytes, and the tables have the
+-- same records under the names in it.
 pub record Agrees (t₁ t₂ : List ℕ) (m : ℕ) (l₁ l₂ : List ℕ) : Type 0 where
   pub word : directiveOf l₂ ≡ directiveOf l₁
   pub bytes : Read m → l₂ ≡ l₁

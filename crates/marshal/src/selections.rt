@@ -15,8 +15,8 @@ fn show_run(out: &mut [u64; 3], line: u64, lines: u64, count: u64)
     out[2] = count;
 }
 
-// Marks the lines of a file: 0, the number of lines and the sum of counts in `out`; or the refusal number and its line, and then every mark
-// is 255.
+// Marks the lines of a file: 0, and the number of lines and the sum of counts in `out`; or the refusal number, its line in `out`, and every
+// mark 255.
 pub fn mark<'a>(marks: &mut [u8], file: &'a [u8], table: &'a [u8], out: &mut [u64; 3]) -> u8
     ensures { λ r. ⌜ Marks (now (file .entry)) (now (table .entry)) (now (marks .entry)) (now (out .entry)) r (now (marks .exit)) (now (out .exit)) ⌝ }
 {

@@ -10,7 +10,7 @@ use Rattle.select.specs.Step.{step}
 use Rattle.select.specs.Select.{Result, accepted, refused, prepend, atEnd, after, run, start, selection}
 use Rattle.select.proofs.LimitsCorrect.{accepted-runs}
 
--- as many as there are lines, if there are any
+-- a result has n marks, if it is accepted
 abbrev Many : ℕ → Result → Type 0
 Many n (accepted ms c) = length ms ≡ n
 Many n (refused k l) = Unit
