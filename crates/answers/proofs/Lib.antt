@@ -1,4 +1,4 @@
-pub mod Answered
-pub mod Placed
+pub mod AnswersExact
+pub mod StringsInBounds
 pub mod LineZero
-pub mod Isolated
+pub mod AnswerIsolated

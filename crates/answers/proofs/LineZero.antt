@@ -1,4 +1,4 @@
--- The promise `WithoutLine`: no refusal of an expression by itself has a line of its own. Assumes nothing.
+-- The answer to an expression has line 0, also if it is a refusal. Assumes nothing.
 use Prim.Native.Nat.{ℕ, zero, suc, _-_}
 use mathlib.Core.Path.{_≡_, refl}
 use mathlib.Core.Bool.{Bool}
@@ -22,9 +22,8 @@ use Rattle.value.specs.Values.{Value, number, string, wide, fault}
 use Rattle.value.specs.Attributes.{Attributes}
 use Rattle.expression.specs.Meaning.{codeOf, meaning}
 use Rattle.evaluation.specs.Evaluation.{Evaluation, lineOf, answerValue, clashes, tokenIn, answerTokens, ofTokens, ended, evaluation}
-use Rattle.answers.specs.Answers.{WithoutLine}
 
--- where reading ended with a refusal, that has line 0
+-- if reading ended with a refusal, it has line 0
 abbrev EndsSo : Ending → Type 0
 EndsSo (Refused r) = r .line .0 ≡ 0
 EndsSo Complete = Unit
@@ -66,27 +65,27 @@ reads-so e =
 abbrev LineZero : Evaluation → Type 0
 LineZero x = lineOf x ≡ 0
 
-finished-so : (v : Value) (n : ℕ) → LineZero (answerValue v n)
-finished-so (number x) n = refl
-finished-so (string p s) n = refl
-finished-so (wide p s) n = refl
-finished-so (fault r) n = refl
+answer-value-so : (v : Value) (n : ℕ) → LineZero (answerValue v n)
+answer-value-so (number x) n = refl
+answer-value-so (string p s) n = refl
+answer-value-so (wide p s) n = refl
+answer-value-so (fault r) n = refl
 
-concluded-so : (cs : List ℕ) (o : Outcome Attributes) → LineZero (answerTokens cs o)
-concluded-so cs (underived i) = refl
-concluded-so cs (accepted a) =
+answer-tokens-so : (cs : List ℕ) (o : Outcome Attributes) → LineZero (answerTokens cs o)
+answer-tokens-so cs (underived i) = refl
+answer-tokens-so cs (accepted a) =
     pick-case LineZero (barOutside 0 cs) (λ _. refl)
     (λ _. pick-case LineZero (a .missing) (λ _. refl)
-    (λ _. pick-case LineZero (clashes (a .kind)) (λ _. refl) (λ _. finished-so (a .value) (a .count))))
+    (λ _. pick-case LineZero (clashes (a .kind)) (λ _. refl) (λ _. answer-value-so (a .value) (a .count))))
 
 ended-so : (x : Ending) (y : Evaluation) → EndsSo x → LineZero y → LineZero (ended x y)
 ended-so (Refused r) y h k = h
 ended-so Complete y h k = k
 
-pub without-line : (e t : List ℕ) → WithoutLine e t
+pub without-line : (e t : List ℕ) → lineOf (evaluation e t) ≡ 0
 unfolding evaluation ofTokens
 without-line e t =
     pick-case LineZero (wellFormed t)
     (λ _. ended-so (reading e .ending) (ofTokens e t (reading e .tokens)) (reads-so e)
-    (concluded-so (codesOf (reading e .tokens)) (parse codeOf (meaning e t) (tokenIn (reading e .tokens)) (length (reading e .tokens)))))
+    (answer-tokens-so (codesOf (reading e .tokens)) (parse codeOf (meaning e t) (tokenIn (reading e .tokens)) (length (reading e .tokens)))))
     (λ _. refl)

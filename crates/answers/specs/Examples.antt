@@ -1,4 +1,4 @@
--- The small expressions that document 01 asks to be proved ("Small ones to prove"), as one table: antt computes each answer from the
+-- The small expressions that document 01 wants proved ("Small ones to prove"), in one table: antt computes each answer from the
 -- definitions, over a table of no settings.
 use Prim.Native.Nat.{ℕ}
 use Prim.Native.String.{String}

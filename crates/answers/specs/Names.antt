@@ -1,11 +1,11 @@
--- The names that an expression names (document 01, "For demand 3"): those of its macros and PCDs.
+-- The names in an expression (document 01, "For demand 3"): those of its macros and PCDs.
 use Prim.Native.Nat.{ℕ}
 use mathlib.Core.Path.{_≡_}
 use mathlib.Core.List.{List, List·Memᴰ}
 use Rattle.token.specs.Tokens.{Token, reading}
 use Rattle.value.specs.Values.{nameIn, Naming}
 
--- an expression e names n: n is the name in a macro or a PCD among its tokens, those of skipped operands too
+-- an expression e names n: n is the name of a macro or a PCD among its tokens, also in a skipped operand
 pub record Names (e n : List ℕ) : Type 0 where
   pub token : Token
   pub among : List·Memᴰ token (reading e .tokens)

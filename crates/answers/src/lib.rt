@@ -1,1 +1,1 @@
-// What is promised of the answer to an expression: definitions and theorems alone. The code is in the crate `evaluation`.
+// The answer to an expression in terms of derivations, and what it depends on: theorems only. The code is in the crate `evaluation`.

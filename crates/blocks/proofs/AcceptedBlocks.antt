@@ -1,5 +1,5 @@
--- The lines of an accepted run derive blocks: from the last line back to the first, each line that the run passed goes in front of what may
--- follow after it. Assumes nothing.
+-- The lines of an accepted run derive blocks. The proof goes from the last line back to the first and puts each line before those that may
+-- follow it. Assumes nothing.
 use Prim.Native.Nat.{ℕ, _+_, _≤_}
 use native.Mathlib.Omega.{arith}
 use mathlib.Core.Path.{_≡_, refl}
@@ -17,7 +17,7 @@ use Rattle.nesting.specs.Decide.{State, Outcome, go, stop, decided}
 use Rattle.select.specs.Step.{readCondition, step}
 use Rattle.select.specs.Select.{Result, accepted, refused, prepend, atEnd, after, run}
 use Rattle.select.proofs.LimitsCorrect.{never}
-use Rattle.blocks.specs.Decides.{WithinLimit}
+use Rattle.blocks.specs.Meaning.{WithinLimit}
 use Rattle.blocks.proofs.MayFollow.{Rest, nothing-left}
 use Rattle.blocks.proofs.GroupMoves.{flags, flags-length, Moved, Moving, moved-back, decided-moves}
 

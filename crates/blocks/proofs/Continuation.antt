@@ -1,4 +1,4 @@
--- A run that continues after lines whose meaning is known. Assumes nothing.
+-- A run that continues after lines with a given meaning. Assumes nothing.
 use Prim.Native.Nat.{ℕ, _+_}
 use native.Mathlib.Nat.{add-zero, add-assoc}
 use mathlib.Core.Path.{_≡_, refl, sym, ap, _∙_}
@@ -7,7 +7,7 @@ use lib.ListN.{length, length-append}
 use Rattle.select.specs.Select.{Result, accepted, refused, prepend}
 use Rattle.blocks.specs.Meaning.{Meaning, means, fault, single, _then_}
 
--- marks in front of a result
+-- marks before a result
 abbrev pub onto : List ℕ → Result → Result
 onto [] r = r
 onto (m ∷ ms) r = prepend m (onto ms r)

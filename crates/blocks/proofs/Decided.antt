@@ -1,25 +1,25 @@
--- The promises of specs/Decides.antt, `MarksTellReading` apart. Assumes nothing.
+-- A selection by the blocks of its file: lines derive at most one list of blocks, an accepted selection is the meaning of its blocks, and
+-- lines that derive blocks within the limits are selected as these mean. Assumes nothing.
 use Prim.Native.Nat.{ℕ, _+_, _≤_}
 use native.Mathlib.Omega.{arith}
 use native.Mathlib.Nat.{zero-add, add-comm}
 use mathlib.Core.Path.{_≡_, sym, _∙_}
 use mathlib.Core.Bool.{true}
 use mathlib.Core.List.{List, [], append-nil}
+use lib.ListN.{length}
+use Rattle.settings.specs.Table.{wellFormed}
 use Rattle.line.specs.Lines.{lines}
 use Rattle.nesting.specs.Decide.{state}
-use Rattle.select.specs.Select.{accepted, refused, run, start}
-use Rattle.select.proofs.LimitsCorrect.{never}
-use Rattle.select.proofs.LimitsCorrect.{runs}
-use Rattle.select.proofs.LimitsCorrect.{accepted-runs}
-use Rattle.blocks.specs.Blocks.{linesOf, Derives, depth}
-use Rattle.blocks.specs.Meaning.{Meaning, means, fault, meaning}
-use Rattle.blocks.specs.Decides.{WithinLimit, resultOf, Unambiguous, Sound, CompleteRun, Complete}
+use Rattle.select.specs.Select.{accepted, refused, run, start, selection}
+use Rattle.select.proofs.LimitsCorrect.{never, runs, accepted-runs}
+use Rattle.blocks.specs.Blocks.{Blocks, linesOf, Derives, depth}
+use Rattle.blocks.specs.Meaning.{Meaning, means, fault, meaning, resultOf, WithinLimit}
 use Rattle.blocks.proofs.Continuation.{onto-accepted, follow}
 use Rattle.blocks.proofs.RunMeaning.{blocks-go}
 use Rattle.blocks.proofs.AcceptedBlocks.{accepted-follows}
 use Rattle.blocks.proofs.Unambiguous.{same-blocks}
 
-pub unambiguous : Unambiguous
+pub unambiguous : (ls : List (List ℕ)) (a b : Blocks) → Derives ls a → Derives ls b → a ≡ b
 unambiguous ls a b p q = same-blocks a (p .words) b (q .words) [] [] tt tt (simp append-nil (sym (p .lines) ∙ q .lines)) .0
 
 -- a meaning with no line after it
@@ -28,13 +28,14 @@ unfolding run
 follow-end t (means ms c) = onto-accepted ms [] (0 + c) ∙ rw (append-nil, zero-add)
 follow-end t (fault r i) = rw (add-comm 1 i)
 
-pub run-complete : CompleteRun
+pub run-complete : (t : List ℕ) (ls : List (List ℕ)) (bs : Blocks) → Derives ls bs → depth bs ≤ 16 → WithinLimit ls
+    → run t 1 start ls ≡ resultOf (meaning t true bs)
 run-complete t ls bs d h s =
     let w : WithinLimit (linesOf bs) = rw (d .lines) at s in
     let e = blocks-go t bs (d .words) w [] (omega arith) [] 1 0 in
     rw (d .lines) (rw append-nil at e ∙ follow-end t (meaning t true bs))
 
--- the meaning of lines of which the result is known
+-- the meaning of lines, from their result
 pub accepted-means : (a : Meaning) (ms : List ℕ) (c : ℕ) → resultOf a ≡ accepted ms c → a ≡ means ms c
 accepted-means (means ns d) ms c e = cc
 accepted-means (fault k i) ms c e = never _ k (i + 1) ms c e
@@ -47,10 +48,13 @@ refused-means (fault k j) r i e =
     let z : j ≡ i = omega arith in
     rw (p, z)
 
-pub complete : Complete
+pub complete : (f t : List ℕ) (room : ℕ) (bs : Blocks)
+    → wellFormed t ≡ true → length f ≤ 65536 → length (lines f) ≤ 4096 → length (lines f) ≤ room
+    → Derives (lines f) bs → depth bs ≤ 16 → WithinLimit (lines f) → selection f t room ≡ resultOf (meaning t true bs)
 complete f t room bs sound small few enough d h s = runs f t room sound small few enough ∙ run-complete t (lines f) bs d h s
 
-pub sound : Sound
+pub sound : (f t : List ℕ) (room : ℕ) (ms : List ℕ) (c : ℕ) → selection f t room ≡ accepted ms c
+    → (bs : Blocks) × Derives (lines f) bs × (depth bs ≤ 16) × WithinLimit (lines f) × (meaning t true bs ≡ means ms c)
 sound f t room ms c e =
     let r = accepted-runs f t room ms c e .0 in
     let w = accepted-follows t (lines f) 1 start ms c (omega arith) r in

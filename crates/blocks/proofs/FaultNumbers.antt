@@ -1,5 +1,6 @@
--- The promise `FaultNumbers`: what blocks mean has no fault from 17 to 21, since no text has. Assumes nothing.
-use Prim.Native.Nat.{ℕ}
+-- The meaning of blocks is no fault with a number from 17 to 21, since no text has such a fault. Assumes nothing.
+use Prim.Native.Nat.{ℕ, _≤_}
+use mathlib.Core.Path.{_≡_}
 use mathlib.Core.Bool.{Bool, true, false, not, _&&_}
 use mathlib.Core.List.{List}
 use Rattle.text.specs.Bytes.{pick}
@@ -10,7 +11,6 @@ use Rattle.line.specs.declared.Condition.{Condition}
 use Rattle.line.specs.declared.Condition.the-variants.{Holds, Fails, Refused}
 use Rattle.blocks.specs.Blocks.{Blocks, empty, line, group, Branches, endif, elseif, else}
 use Rattle.blocks.specs.Meaning.{Meaning, means, fault, single, _then_, branch, otherwise, closing, meaning, branches}
-use Rattle.blocks.specs.Refused.{FaultNumbers}
 use Rattle.blocks.proofs.TextFaults.{Other-than, InCondition, in-condition}
 
 abbrev Sorted : Meaning → Type 0
@@ -70,5 +70,5 @@ module _ (t : List ℕ) where
         (λ _. closing-sorted around (evaluate t Endif (textOf e)) (in-condition t Endif (textOf e)))
         around (otherwise taken (evaluate t Else (textOf l))) taken (otherwise-sorted taken (evaluate t Else (textOf l)) (in-condition t Else (textOf l)))
 
-pub fault-numbers : FaultNumbers
+pub fault-numbers : (t : List ℕ) (bs : Blocks) (r i : ℕ) → meaning t true bs ≡ fault r i → 17 ≤ r → r ≤ 21 → ⊥
 fault-numbers t bs r i e = let h : Sorted (fault r i) = rw e at (blocks-sorted t bs true) in h

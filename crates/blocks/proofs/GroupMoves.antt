@@ -1,4 +1,4 @@
--- How a line that a run passes changes which groups are open, whatever its text says. Assumes nothing.
+-- How a line that a run passes changes the open groups, for any condition. Assumes nothing.
 use Prim.Native.Nat.{ℕ, suc, _≤_}
 use native.Mathlib.Omega.{arith}
 use mathlib.Core.Path.{_≡_, refl, sym, ap, _∙_}
@@ -23,7 +23,7 @@ use Rattle.blocks.specs.Blocks.{opens}
 use Rattle.blocks.proofs.StepByWord.{Inside}
 use Rattle.blocks.proofs.MayFollow.{Front, Others, After, None, Rest, before-plain, before-opening, before-elseif, before-else, before-endif}
 
--- of each open group, whether its `!else` was seen
+-- for each open group, whether its `!else` was seen
 abbrev pub flags : List Group → List Bool
 flags [] = []
 flags (group s b n ∷ gs) = b ∷ flags gs
@@ -32,7 +32,7 @@ pub flags-length : (gs : List Group) → length (flags gs) ≡ length gs
 flags-length [] = refl
 flags-length (group s b n ∷ gs) = ap suc (flags-length gs)
 
--- and the line of its `!if`
+-- for each open group, the line of its `!if`
 abbrev pub starts : List Group → List ℕ
 starts [] = []
 starts (group s b n ∷ gs) = n ∷ starts gs
@@ -45,7 +45,7 @@ pub data Moves : Directive → List Bool → List Bool → Type 0 where
   final : {fs : List Bool} → Moves Else (false ∷ fs) (true ∷ fs)
   leave : {b : Bool} {fs : List Bool} → Moves Endif (b ∷ fs) fs
 
--- and the lines of their `!if`, where the line is line n
+-- the lines of their `!if` before and after line n
 abbrev pub started : Directive → (n : ℕ) → List ℕ → List ℕ
 started Plain n ns = ns
 started If n ns = n ∷ ns
@@ -66,7 +66,7 @@ started-opens Else n ns o = absurd (false≢true o)
 started-opens Endif n ns o = absurd (false≢true o)
 started-opens Unknown n ns o = absurd (false≢true o)
 
--- what may follow after a line inside a group may follow before it, with the line in front
+-- if lines may follow after a line inside a group, then that line and these may follow before it
 abbrev pub Some : List Bool → Type 0
 Some [] = ⊥
 Some (b ∷ fs) = Unit
@@ -83,7 +83,7 @@ moved-in most End l ls (turn {fs}) e i h k r = before-elseif most (length fs) l 
 moved-in most End l ls (final {fs}) e i h k r = before-else most (length fs) l ls (After most End fs) e r
 moved-in most End l ls (leave {b} {fs}) e i h k r = before-endif most (length fs) l ls (After most End fs) b e h r
 
--- and so for a line outside all groups
+-- the same for a line outside all groups
 pub moved-back : (most : ℕ) {d : Directive} {fs gs : List Bool} (l : List ℕ) (ls : List (List ℕ)) → Moves d fs gs → directiveOf l ≡ d
     → length fs ≤ most → length gs ≤ most → Rest most gs ls → Rest most fs (l ∷ ls)
 moved-back most l ls (stay {fs = []}) e h k r = before-plain most 0 l ls None e r
@@ -94,7 +94,7 @@ moved-back most l ls (turn {fs}) e h k r = moved-in most (Front most 0 None) l l
 moved-back most l ls (final {fs}) e h k r = moved-in most (Front most 0 None) l ls (final {fs = fs}) e tt h k r
 moved-back most l ls (leave {b} {fs}) e h k r = moved-in most (Front most 0 None) l ls (leave {b = b} {fs = fs}) e tt h k r
 
--- no open group has the standing of a line outside all groups
+-- no open group has the state `NoGroup`
 abbrev pub Proper : List Group → Type 0
 Proper [] = Unit
 Proper (group s b n ∷ gs) = Inside s × Proper gs
@@ -106,7 +106,7 @@ pub record Moved (d : Directive) (n : ℕ) (gs hs : List Group) : Type 0 where
   pub proper : Proper gs → Proper hs
   pub few : length gs ≤ 16 → length hs ≤ 16
 
--- where the groups and the word let a line pass
+-- the open groups and the word let a line pass
 abbrev pub Can : Directive → List Bool → Type 0
 Can Plain fs = Unit
 Can If fs = Unit
@@ -122,8 +122,8 @@ Can Endif [] = ⊥
 Can Endif (b ∷ fs) = Unit
 Can Unknown fs = Unit
 
--- an outcome moves so, if it goes on; if it is a refusal, then not 19, where the groups and the word let the line pass and the text is not
--- wrong with that number
+-- an outcome that is no refusal changes the groups so; a refusal is not 19 if the groups and the word let the line pass and the condition
+-- is not refused with 19
 abbrev pub Moving : Condition → Directive → ℕ → List Group → Outcome → Type 0
 Moving c d n gs (go m s) = Moved d n gs (s .groups)
 Moving c d n gs (stop r) = (c ≡ Refused 19 → ⊥) → Proper gs → Can d (flags gs) → r ≡ 19 → ⊥

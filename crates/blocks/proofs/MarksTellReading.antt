@@ -1,4 +1,4 @@
--- The marks that blocks mean show which lines are read by blocks. Assumes nothing.
+-- The marks in the meaning of blocks show which lines are read. Assumes nothing.
 use Prim.Native.Nat.{ℕ, zero, suc, _≤_, _<_}
 use native.Mathlib.Omega.{arith}
 use mathlib.Core.Path.{_≡_, refl}
@@ -14,11 +14,11 @@ use Rattle.condition.specs.Conditions.{evaluate}
 use Rattle.line.specs.declared.Condition.{Condition}
 use Rattle.line.specs.declared.Condition.the-variants.{Holds, Fails, Refused}
 use Rattle.isolation.specs.Isolation.{Read}
+use Rattle.select.specs.Select.{accepted, selection}
 use Rattle.select.proofs.MarksEachLine.{marks-each-line}
-use Rattle.blocks.specs.Blocks.{Blocks, empty, line, group, Branches, endif, elseif, else}
+use Rattle.blocks.specs.Blocks.{Blocks, empty, line, group, Branches, endif, elseif, else, Derives}
 use Rattle.blocks.specs.Meaning.{Meaning, means, fault, single, _then_, branch, otherwise, closing, meaning, branches}
 use Rattle.blocks.specs.Reading.{holds, readsOf, readsIn}
-use Rattle.blocks.specs.Decides.{MarksTellReading}
 use Rattle.blocks.proofs.Decided.{unambiguous, sound}
 
 -- a mark for each line, 3 to 5 exactly if the line is read
@@ -68,7 +68,7 @@ module _ (reads-body reads-others : Bool → List Bool) (body others : Bool → 
   branch-shows true (Fails n) false = line-shows true 3 n false false (read 3 n (omega arith) (omega arith))
   branch-shows true (Refused k) earlier = tt
 
--- an `!else`, whose text says nothing of its branch
+-- an `!else`, whose condition does not decide its branch
 else-shows : (reads-body : Bool → List Bool) (reads-end : List Bool) (body : Bool → Meaning) (end : Meaning)
     → ((b : Bool) → Shows (reads-body b) (body b)) → Shows reads-end end → (around : Bool) (c : Condition) (earlier : Bool)
     → Shows (around ∷ (reads-body (around && not earlier) ++ reads-end)) (branch around (otherwise earlier c) earlier body (λ _. end))
@@ -131,7 +131,9 @@ tells-at [] (m ∷ ms) i h k = absurd h
 tells-at (b ∷ bs) (m ∷ ms) zero h k = (h .0, h .1)
 tells-at (b ∷ bs) (m ∷ ms) (suc i) h k = tells-at bs ms i (h .2) (omega arith)
 
-pub marks-tell-reading : MarksTellReading
+pub marks-tell-reading : (f t : List ℕ) (room : ℕ) (ms : List ℕ) (c : ℕ) → selection f t room ≡ accepted ms c
+    → (bs : Blocks) → Derives (lines f) bs → (i : ℕ) → i < length (lines f)
+    → ((getD (readsOf t true bs) i false ≡ true) ↔ Read (getD ms i 0)) × (getD ms i 0 ≤ 5)
 marks-tell-reading f t room ms c e bs d i k =
     let w = sound f t room ms c e in
     let q : bs ≡ w .0 = unambiguous (lines f) bs (w .0) d (w .1) in

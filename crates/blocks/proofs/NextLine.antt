@@ -1,4 +1,4 @@
--- What may follow, by its first line: how that line changes the open groups, and what may follow after it. Assumes nothing.
+-- Lines that may follow, by their first line: how it changes the open groups, and which lines may follow after it. Assumes nothing.
 use Prim.Native.Nat.{ℕ, suc, _+_, _≤_}
 use native.Mathlib.Omega.{arith}
 use mathlib.Core.Path.{_≡_, refl, sym, ap, _∙_, subst}
@@ -12,7 +12,7 @@ use Rattle.blocks.proofs.MayFollow.{Allowed, Front, Others, None, Rest}
 use Rattle.blocks.proofs.GroupMoves.{Moves, stay, enter, turn, final, leave}
 
 module _ (most d : ℕ) (l : List ℕ) (ls : List (List ℕ)) (Next : List (List ℕ) → Type 0) (R : Type 0) where
-  -- the first line of blocks, or of what comes after them
+  -- the first line of blocks, or of the lines after them
   front-ahead : Front most d Next (l ∷ ls)
       → (directiveOf l ≡ Plain → Front most d Next ls → R)
       → (opens (directiveOf l) ≡ true → Front most (suc d) (Others most d false (Front most d Next)) ls → R)
@@ -84,7 +84,7 @@ module _ (most d : ℕ) (l : List ℕ) (ls : List (List ℕ)) (Next : List (List
             next = record { branches = endif y; more = r .more; fits = w .2; allowed = tt; deep = omega arith; lines = refl; next = r .next };
           })
 
--- some groups after the line, and what may follow then
+-- the groups after the line, and the lines that may follow then
 abbrev pub Ahead : (most : ℕ) → List Bool → List ℕ → List (List ℕ) → Type 0
 Ahead most fs l ls = (gs : List Bool) × Moves (directiveOf l) fs gs × Rest most gs ls
 

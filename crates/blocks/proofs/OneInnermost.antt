@@ -1,4 +1,5 @@
--- One line at most is the innermost open `!if`: of two, the earlier one's group would end before the later one's. Assumes nothing.
+-- At most one line is the innermost open `!if`: of two, the group of the earlier one would end before that of the later one. Assumes
+-- nothing.
 use Prim.Native.Nat.{ℕ, _<_}
 use native.Mathlib.Omega.{arith}
 use mathlib.Core.Path.{_≡_, refl, sym, ap, _∙_}
@@ -13,7 +14,6 @@ use Rattle.line.specs.declared.Directive.{Directive}
 use Rattle.line.specs.declared.Directive.the-variants.{Plain, Elseif, Else, Endif}
 use Rattle.blocks.specs.Blocks.{Blocks, empty, line, group, Branches, endif, elseif, else, linesOf, linesIn, Fits, FitsIn, Derives, depth}
 use Rattle.blocks.specs.Beginnings.{Whole, Innermost}
-use Rattle.blocks.specs.Refused.{OneInnermost}
 use Rattle.blocks.proofs.Unambiguous.{place, place-opens, same-blocks, same-branches, stops-in}
 use Rattle.blocks.proofs.MayFollow.{Rest, nothing-left}
 use Rattle.blocks.proofs.GroupMoves.{Moves, stay, enter, turn, final, leave}
@@ -22,7 +22,7 @@ use Rattle.blocks.proofs.PassedLines.{Walk, moves-same, walk-back, an-e
 use Rattle.blocks.proofs.Stray.{whole-rest, rest-whole}
 use Rattle.blocks.proofs.Unfinished.{no-rest}
 
--- what may follow after a line that changes the open groups so
+-- the lines that may follow after a line with this change of the open groups
 pub along : (most : ℕ) (l : List ℕ) (ls : List (List ℕ)) (d : Directive) (fs gs : List Bool) → directiveOf l ≡ d → Moves d fs gs → Rest most fs (l ∷ ls)
     → Rest most gs ls
 along most l ls d fs gs e m r =
@@ -31,7 +31,7 @@ along most l ls d fs gs e m r =
     let q : gs ≡ a .0 = moves-same m v in
     rw q (a .2)
 
--- whole blocks leave the open groups as they were, and the branches of a group close it
+-- whole blocks do not change the open groups, and the branches of a group end it
 module _ (most : ℕ) where
   mutual
     past-blocks : (bs : Blocks) → Fits bs → (fs : List Bool) (ls : List (List ℕ)) → Rest most fs (linesOf bs ++ ls) → Rest most fs ls
@@ -54,7 +54,7 @@ module _ (most : ℕ) where
         let b = along most l (linesOf body ++ (e ∷ ls)) Else (false ∷ fs) (true ∷ fs) (w .0) final a in
         along most e ls Endif (true ∷ fs) fs (w .2) leave (past-blocks body (w .1) (true ∷ fs) (e ∷ ls) b)
 
-  -- lines at the front of what may follow lead somewhere
+  -- lines at the front of lines that may follow can be passed
   walks : (ls more : List (List ℕ)) (fs : List Bool) → Rest most fs (ls ++ more) → (gs : List Bool) × Walk fs ls gs × Rest most gs more
   walks [] more fs r = (fs, refl, r)
   walks (l ∷ ls) more fs r =
@@ -62,7 +62,7 @@ module _ (most : ℕ) where
       let b = walks ls more (a .0) (a .2) in
       (b .0, (a .0, a .1, b .1), b .2)
 
--- lines before whole blocks are whole blocks, where all of them are
+-- lines before whole blocks are whole blocks, if all lines together are
 whole-before : (xs : List (List ℕ)) (bs w : Blocks) → Derives (xs ++ linesOf w) bs → Fits w → Whole xs
 whole-before xs bs w d h =
     let r = walks (depth bs) xs (linesOf w) [] (whole-rest _ bs d) in
@@ -74,7 +74,7 @@ whole-before xs bs w d h =
     by [] v z =
         rest-whole (length xs) xs (rw append-nil at (walk-back (length xs) xs [] [] [] (omega arith) v (nothing-left (length xs))))
 
--- so no group with an open group in it ends with that group's end
+-- so no group that contains an open group ends where that group ends
 module _ (l m : List ℕ) (mid : List (List ℕ)) (body body′ : Blocks) (os os′ : Branches)
     (d : Derives (l ∷ (mid ++ linesOf (group m body′ os′ empty))) (group l body os empty)) (w : Fits (group m body′ os′ empty)) where
   never-both : ⊥
@@ -122,7 +122,7 @@ later ls m k p q h =
     let i = joined (p .opening) (q .opening) e (p .since) (v .0) (q .since) (linesOf (group (q .opening) (f .0) (f .1) empty)) (v .1) (f .2 .lines) in
     never-both (p .opening) (q .opening) (v .0) (c .0) (f .0) (c .1) (f .1) (record { lines = sym i ∙ c .2 .lines; words = c .2 .words }) (f .2 .words)
 
-pub one-innermost : OneInnermost
+pub one-innermost : (ls : List (List ℕ)) (m k : ℕ) → Innermost ls m → Innermost ls k → m ≡ k
 one-innermost ls m k p q = by (ltb m k) refl (ltb k m) refl
   where
     by : (a : Bool) → ltb m k ≡ a → (b : Bool) → ltb k m ≡ b → m ≡ k

@@ -1,4 +1,4 @@
--- Lines that a run passes are passable by blocks, and the other way round. Assumes nothing.
+-- A run passes lines exactly if they are passable by blocks. Assumes nothing.
 use Prim.Native.Nat.{ℕ, _+_, _≤_}
 use native.Mathlib.Omega.{arith}
 use mathlib.Core.Path.{_≡_, refl, sym, ap, _∙_}
@@ -17,8 +17,7 @@ use Rattle.nesting.specs.Groups.{Group, group as entry}
 use Rattle.nesting.specs.Decide.{State, state}
 use Rattle.select.specs.Select.{Result, accepted, prepend, run, start}
 use Rattle.blocks.specs.Blocks.{Derives, depth}
-use Rattle.blocks.specs.Meaning.{closing, meaning}
-use Rattle.blocks.specs.Decides.{WithinLimit, resultOf}
+use Rattle.blocks.specs.Meaning.{closing, meaning, WithinLimit, resultOf}
 use Rattle.blocks.specs.Refused.{Passable}
 use Rattle.blocks.proofs.Passing.{Passes}
 use Rattle.blocks.proofs.Continuation.{onto, onto-accepted, follow}
@@ -45,11 +44,11 @@ pub passes-short : (t : List ℕ) (ls : List (List ℕ)) (n : ℕ) (s s′ : Sta
 passes-short t [] n s s′ e = tt
 passes-short t (l ∷ ls) n s s′ p = (passed t n s l (p .0) (p .1) (p .2) .0, passes-short t ls (n + 1) (p .1) s′ (p .3))
 
--- blocks out of what may follow where no group is open
+-- lines that may follow while no group is open derive blocks
 pub rest-derives : (ls : List (List ℕ)) (r : Rest 16 [] ls) → Derives ls (r .blocks) × (depth (r .blocks) ≤ 16)
 rest-derives ls r = (record { lines = r .lines ∙ rw (r .next, append-nil); words = r .fits }, omega (arith, r .deep))
 
--- every open group can be closed with no fault
+-- every open group can be ended without a fault
 endif-condition : (t : List ℕ) → evaluate t Endif (textOf (bytes "!endif")) ≡ Holds 0
 unfolding evaluate idle named wordStart textStart directiveOf span compared classOf
 endif-condition t = refl

@@ -1,5 +1,5 @@
--- Lines that a run passes, by the open groups alone: what may follow after them may follow before them, with these lines in front, and the
--- other way round. Assumes nothing.
+-- Lines that a run passes, by the open groups alone: some lines may follow after them exactly if these lines and then those may follow
+-- before them. Assumes nothing.
 use Prim.Native.Nat.{ℕ, suc, _+_, _≤_}
 use native.Mathlib.Omega.{arith}
 use mathlib.Core.Path.{_≡_, refl, sym, ap}
@@ -65,7 +65,7 @@ pub walk-append : (ls ms : List (List ℕ)) (fs gs hs : List Bool) → Walk fs l
 walk-append [] ms fs gs hs e w = rw e w
 walk-append (l ∷ ls) ms fs gs hs v w = (v .0, v .1, walk-append ls ms (v .0) gs hs (v .2) w)
 
--- every open group can be closed
+-- every open group can be ended
 pub an-endif : directiveOf (bytes "!endif") ≡ Endif
 unfolding named wordStart directiveOf span compared classOf
 an-endif = refl
@@ -85,12 +85,12 @@ module _ (t : List ℕ) where
   passes-walk (l ∷ ls) n s s′ p =
       (flags (p .1 .groups), passed t n s l (p .0) (p .1) (p .2) .1 .moves, passes-walk ls (n + 1) (p .1) s′ (p .3))
 
-  -- no open group then has the standing of a line outside all groups
+  -- then no open group has the state `NoGroup`
   pub passes-proper : (ls : List (List ℕ)) (n : ℕ) (s s′ : State) → Passes t n s ls s′ → Proper (s .groups) → Proper (s′ .groups)
   passes-proper [] n s s′ e h = rw (sym e) h
   passes-proper (l ∷ ls) n s s′ p h = passes-proper ls (n + 1) (p .1) s′ (p .3) (passed t n s l (p .0) (p .1) (p .2) .1 .proper h)
 
--- the first with the limit of 16 groups
+-- the first statement with the limit of 16 groups
 pub passes-back : (t : List ℕ) (ls : List (List ℕ)) (n : ℕ) (s s′ : State) (more : List (List ℕ)) → Passes t n s ls s′ → length (s .groups) ≤ 16
     → (length (s′ .groups) ≤ 16) × (Rest 16 (flags (s′ .groups)) more → Rest 16 (flags (s .groups)) (ls ++ more))
 passes-back t [] n s s′ more e h = (rw (sym e) h, λ r. rw e r)

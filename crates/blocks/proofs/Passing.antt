@@ -1,5 +1,5 @@
--- Lines that a run passes, and what is shown of a run after them: the way from the run to specs/Refused.antt. Stray.antt, StrayLine.antt,
--- TwoElses.antt and Unfinished.antt have the proofs.
+-- Lines that a run passes, and statements on a run after them, from which the reasons in specs/Refused.antt follow. Stray.antt,
+-- StrayLine.antt, TwoElses.antt and Unfinished.antt have the proofs.
 use Prim.Native.Nat.{ℕ, _+_, _≤_}
 use mathlib.Core.Path.{_≡_}
 use mathlib.Core.Logic.{_↔_}
@@ -12,30 +12,30 @@ use Rattle.select.specs.Step.{step}
 use Rattle.select.specs.Select.{accepted, refused, run, start}
 use Rattle.blocks.specs.Beginnings.{Whole, Begins, Innermost}
 
--- a run refuses none of these lines, the first of which is line n, and comes from one state to another
+-- a run refuses none of these lines, which start at line n, and goes from one state to another
 abbrev pub Passes : (t : List ℕ) → (n : ℕ) → State → List (List ℕ) → State → Type 0
 Passes t n s [] s′ = s ≡ s′
 Passes t n s (l ∷ ls) s′ = (m : ℕ) × (q : State) × (step t n s l ≡ go m q) × Passes t (n + 1) q ls s′
 
--- Lines that a run passes begin blocks. The next line, if it is within the limit and its word is known, is refused 19 exactly if the lines
--- begin no blocks with it.
+-- Lines that a run passes begin blocks. The next line, if it is within the limit and its word is known, is refused with 19 exactly if the
+-- lines with it begin no blocks.
 abbrev pub Stray : Type 0
 Stray = (t : List ℕ) (ls : List (List ℕ)) (s : State) → Passes t 1 start ls s
     → Begins ls
     × ((n : ℕ) (l : List ℕ) → length l ≤ 1024 → (directiveOf l ≡ Unknown → ⊥)
     → (step t n s l ≡ stop 19) ↔ (Begins (ls ++ (l ∷ [])) → ⊥))
 
--- so a run is refused 19 only at the first line with which the lines begin no blocks
+-- so a run is refused with 19 only at the first line with which the lines begin no blocks
 abbrev pub StrayLine : Type 0
 StrayLine = (t : List ℕ) (ls : List (List ℕ)) (n : ℕ) → run t 1 start ls ≡ refused 19 n
     → (before : List (List ℕ)) × (l : List ℕ) × (rest : List (List ℕ)) × (ls ≡ before ++ (l ∷ rest)) × (n ≡ length before + 1)
     × Begins before × (Begins (before ++ (l ∷ [])) → ⊥)
 
--- and its lines derive no blocks
+-- the lines of a run that is refused with 19 derive no blocks
 abbrev pub StrayDerivesNone : Type 0
 StrayDerivesNone = (t : List ℕ) (ls : List (List ℕ)) (n : ℕ) → run t 1 start ls ≡ refused 19 n → Whole ls → ⊥
 
--- a run that passes every line is accepted if the lines are whole blocks, and else refused 21 at the innermost open `!if`
+-- a run that passes every line is accepted if the lines are whole blocks, else refused with 21 at the innermost open `!if`
 abbrev pub Unfinished : Type 0
 Unfinished = (t : List ℕ) (ls : List (List ℕ)) (s : State) → Passes t 1 start ls s
     → (Whole ls → (ms : List ℕ) × (run t 1 start ls ≡ accepted ms (s .count)))

@@ -1,8 +1,8 @@
--- Every refusal of a run, by blocks: a step that stops has its reason, and where a line has a reason the step stops. Assumes nothing.
+-- Every refusal of a run, by blocks: a step that stops has a reason, and a step with a reason stops. Assumes nothing.
 use Prim.Native.Nat.{ℕ, _+_, _≤_, _<_}
 use native.Mathlib.Omega.{arith}
 use mathlib.Core.Path.{_≡_, refl, sym, ap, _∙_, subst}
-use mathlib.Core.Logic.{_⊎_, inl, inr}
+use mathlib.Core.Logic.{_↔_, _⊎_, inl, inr}
 use mathlib.Core.Bool.{Bool, true, false, false≢true}
 use mathlib.Core.List.{List, [], _∷_, _++_}
 use lib.ListN.{length}
@@ -19,10 +19,9 @@ use Rattle.select.specs.Select.{Result, accepted, refused, run, start}
 use Rattle.select.proofs.LimitsCorrect.{never}
 use Rattle.select.proofs.Steps.{long-step, decided-step}
 use Rattle.blocks.specs.Blocks.{Blocks, opens, Derives, depth}
-use Rattle.blocks.specs.Meaning.{fault, meaning}
+use Rattle.blocks.specs.Meaning.{fault, meaning, resultOf, WithinLimit}
 use Rattle.blocks.specs.Beginnings.{Whole}
-use Rattle.blocks.specs.Decides.{WithinLimit, resultOf}
-use Rattle.blocks.specs.Refused.{Refuses, long, unknown, stray, deep, faulty, RefusedAt, RefusedAtEnd, Refused}
+use Rattle.blocks.specs.Refused.{Refuses, long, unknown, stray, deep, faulty, RefusedAt, RefusedAtEnd}
 use Rattle.blocks.proofs.Passing.{Passes}
 use Rattle.blocks.proofs.Continuation.{onto, onto-accepted, onto-refused}
 use Rattle.blocks.proofs.RunMeaning.{run-stop}
@@ -54,7 +53,7 @@ decided-unknown : (d : Directive) → d ≡ Unknown → (c : Condition) (n k : �
 unfolding decided
 decided-unknown d e c n k s = rw e
 
--- no more than 16 groups are open after a line that may open one more
+-- at most 16 groups are open after a line that may open one more
 moves-few : {d : Directive} {fs gs : List Bool} → Moves d fs gs → length fs ≤ 16 → (opens d ≡ true → length fs < 16) → length gs ≤ 16
 moves-few stay h f = h
 moves-few (enter o) h f = let k = f o in omega arith
@@ -62,7 +61,7 @@ moves-few turn h f = h
 moves-few final h f = h
 moves-few leave h f = omega arith
 
--- a result in front of which marks make a refusal
+-- a result that is a refusal after more marks is a refusal
 onto-back : (ms : List ℕ) (z : Result) (r n : ℕ) → onto ms z ≡ refused r n → z ≡ refused r n
 onto-back ms (accepted ns c) r n e = never _ r n (ms ++ ns) c (sym e ∙ onto-accepted ms ns c)
 onto-back ms (refused a b) r n e = sym (onto-refused ms a b) ∙ e
@@ -77,7 +76,7 @@ module _ (t : List ℕ) (ls : List (List ℕ)) (s : State) (p : Passes t 1 start
   few : length (s .groups) ≤ 16
   few = passes-back t ls 1 start s [] p (omega arith) .0
 
-  -- a line that could pass, by its word, and is refused: its text is at fault
+  -- a line that could pass by its word, and is refused: the fault is in its text
   text-faulty : (r : ℕ) (gs : List Bool) → length l ≤ 1024 → Moves (directiveOf l) (flags (s .groups)) gs → length gs ≤ 16 → step t m s l ≡ stop r
       → Refuses t ls l r
   text-faulty r gs short v k e =
@@ -136,7 +135,7 @@ module _ (t : List ℕ) (ls : List (List ℕ)) (s : State) (p : Passes t 1 start
           subst (Refuses t ls l) (same-stop 17 r (sym (long-step t m s l k) ∙ e)) (long k)
       by false h = short-reason r (ltb-false 1024 (length l) h) e
 
-  -- a fault of blocks that the lines begin stops the run at this line
+  -- a fault in the meaning of blocks that the lines begin stops the run at this line
   fault-stops : (r : ℕ) (more : List (List ℕ)) (bs : Blocks) → Derives (ls ++ (l ∷ more)) bs → depth bs ≤ 16 → WithinLimit (ls ++ (l ∷ more))
       → meaning t true bs ≡ fault r (length ls) → step t m s l ≡ stop r
   fault-stops r more bs d k limit e = by (refused-where t (l ∷ more) m s r (length ls + 1) (onto-back (o .0) _ r (length ls + 1) (sym (o .1) ∙ whole)))
@@ -211,5 +210,6 @@ module _ (t : List ℕ) (ls : List (List ℕ)) (r n : ℕ) where
       let y = w .0 in
       u .2 ∙ rw (z, y)
 
-pub refused-by-blocks : Refused
+pub refused-by-blocks : (t : List ℕ) (ls : List (List ℕ)) (r n : ℕ)
+    → (run t 1 start ls ≡ refused r n) ↔ (RefusedAt t ls r n ⊎ ((r ≡ 21) × RefusedAtEnd t ls n))
 refused-by-blocks t ls r n = (has-reason t ls r n, refuses-so t ls r n)

@@ -1,5 +1,5 @@
--- A run over the lines of blocks gives what these mean, whatever groups are open around them and whatever lines come after them.
--- Assumes nothing.
+-- A run over the lines of blocks gives the meaning of the blocks, for any open groups around them and any lines after them. Assumes
+-- nothing.
 use Prim.Native.Nat.{ℕ, suc, _+_, _≤_}
 use native.Mathlib.Omega.{arith}
 use native.Mathlib.Nat.{add-zero}
@@ -23,8 +23,7 @@ use Rattle.nesting.specs.Decide.{State, state, go, stop, decided}
 use Rattle.select.specs.Step.{step}
 use Rattle.select.specs.Select.{Result, refused, prepend, run}
 use Rattle.blocks.specs.Blocks.{Blocks, empty, line, group, Branches, endif, elseif, else, linesOf, linesIn, Fits, FitsIn, depth, depthIn}
-use Rattle.blocks.specs.Meaning.{Meaning, fault, single, _then_, branch, otherwise, closing, meaning, branches}
-use Rattle.blocks.specs.Decides.{WithinLimit}
+use Rattle.blocks.specs.Meaning.{Meaning, fault, single, _then_, branch, otherwise, closing, meaning, branches, WithinLimit}
 use Rattle.blocks.proofs.Continuation.{follow, follow-ext, follow-none, follow-then, follow-single}
 use Rattle.blocks.proofs.StepByWord.{begun, hears, Inside, wasTaken, step-word, plain-step, opening-step}
 
@@ -46,7 +45,7 @@ module _ (t : List ℕ) where
     unfolding run
     run-stop r e = rw e
 
-  -- lines go as a meaning says, from any line and count on
+  -- a run over these lines has this meaning, from any line number and count on
   abbrev GoesAs : List Group → List (List ℕ) → Meaning → (ℕ → ℕ → Result) → Type 0
   GoesAs gs ls a f = (n k : ℕ) → run t n (state gs k) ls ≡ follow n k a f
 
@@ -65,8 +64,8 @@ module _ (t : List ℕ) where
         ∙ sym (follow-then (n + 1) (k + j) (meaning t (isActive (stateOf gs)) body) a f))
         ∙ sym (follow-single n k m j (meaning t (isActive (stateOf gs)) body then a) f)
 
-  -- a directive in an open group is decided by the standing of the group and what its text says
-  abbrev Decided : Directive → Condition → (n k : ℕ) → GroupState → (closed : Bool) → (m : ℕ) → List Group → List ℕ → Type 0
+  -- a directive in an open group is decided by the state of the group and its condition
+  abbrev Decided : Directive → Condition → (n k : ℕ) → GroupState → (elseSeen : Bool) → (m : ℕ) → List Group → List ℕ → Type 0
   Decided d c n k s b m gs l =
       step t n (state (entry s b m ∷ gs) k) l ≡ decided d (hears (reads d s) c) n (k + countOf (hears (reads d s) c)) (entry s b m ∷ gs)
 

@@ -1,4 +1,4 @@
--- The step over a line whose word is known; a plain line, and one that opens a group. Assumes nothing.
+-- The step over a line with a given word: a plain line, and one that opens a group. Assumes nothing.
 use Prim.Native.Nat.{ℕ, _+_, _≤_, _<_}
 use mathlib.Core.Path.{_≡_, refl, _∙_}
 use mathlib.Core.Bool.{Bool, true, false, false≢true}
@@ -21,14 +21,14 @@ use Rattle.select.specs.Step.{readCondition, step}
 use Rattle.select.proofs.Steps.{decided-step}
 use Rattle.blocks.specs.Blocks.{opens}
 
--- an opening line, by whether the branch around its group is taken and by what its text says
+-- an opening line, by whether the branch around its group is taken and by its condition
 abbrev pub begun : Bool → Condition → (n k : ℕ) → List Group → Outcome
 begun false c n k gs = go 2 (state (group Skipped false n ∷ gs) (k + 0))
 begun true (Holds j) n k gs = go 4 (state (group Active false n ∷ gs) (k + j))
 begun true (Fails j) n k gs = go 3 (state (group Pending false n ∷ gs) (k + j))
 begun true (Refused r) n k gs = stop r
 
--- what is heard where a directive is read or not
+-- the condition of a directive that is read, and of one that is not
 abbrev pub hears : Bool → Condition → Condition
 hears b c = pick b c (Fails 0)
 
@@ -53,7 +53,7 @@ decided-begun Endif o c n k gs h = absurd (false≢true o)
 decided-begun Unknown o c n k gs h = absurd (false≢true o)
 
 module _ (t : List ℕ) (n k : ℕ) (gs : List Group) (l : List ℕ) (short : length l ≤ 1024) where
-  -- a step over a known word
+  -- a step over a given word
   pub step-word : (d : Directive) → directiveOf l ≡ d
       → step t n (state gs k) l
       ≡ decided d (hears (reads d (stateOf gs)) (evaluate t d (textOf l))) n (k + countOf (hears (reads d (stateOf gs)) (evaluate t d (textOf l)))) gs
@@ -68,7 +68,7 @@ module _ (t : List ℕ) (n k : ℕ) (gs : List Group) (l : List ℕ) (short : le
       → step t n (state gs k) l ≡ begun (isActive (stateOf gs)) (evaluate t (directiveOf l) (textOf l)) n k gs
   opening-step o h = step-word (directiveOf l) refl ∙ decided-begun (directiveOf l) o (evaluate t (directiveOf l) (textOf l)) n k gs h
 
--- a standing of an open group, and whether one of its branches was taken
+-- a state of an open group, and whether one of its branches was taken
 abbrev pub Inside : GroupState → Type 0
 Inside NoGroup = ⊥
 Inside Skipped = Unit

@@ -1,4 +1,4 @@
--- Where a run is refused: at a line, all lines before which were passed, or at the end of all lines. Assumes nothing.
+-- A run is refused at a line after lines that it passed, or at the end of all lines. Assumes nothing.
 use Prim.Native.Nat.{ℕ, suc, _+_}
 use native.Mathlib.Omega.{arith}
 use native.Mathlib.Nat.{add-zero}
@@ -30,7 +30,7 @@ pub record Ended (t : List ℕ) (n : ℕ) (s : State) (ls : List (List ℕ)) (r 
   pub unclosed : atEnd (state .groups) (state .count) ≡ refused r m
 
 module _ (t : List ℕ) where
-  -- one line was passed before
+  -- after one line that was passed
   later : (l : List ℕ) (ls : List (List ℕ)) (n : ℕ) (s : State) (r m k : ℕ) (s′ : State) → step t n s l ≡ go k s′
       → Stopped t (n + 1) s′ ls r m ⊎ Ended t (n + 1) s′ ls r m
       → Stopped t n s (l ∷ ls) r m ⊎ Ended t n s (l ∷ ls) r m
@@ -87,7 +87,7 @@ module _ (t : List ℕ) where
       by (stop r) q e ih = never _ r n ms c e
       by (go k s′) q e ih = on k s′ q (run t (n + 1) s′ (ls ++ more)) refl e ih
 
-  -- a run over lines that are passed goes on with the others
+  -- a run over lines that are passed continues with the others
   pub passes-on : (ls : List (List ℕ)) (n : ℕ) (s s′ : State) (rest : List (List ℕ)) → Passes t n s ls s′
       → (ms : List ℕ) × (run t n s (ls ++ rest) ≡ onto ms (run t (n + length ls) s′ rest))
   passes-on [] n s s′ rest e = ([], rw (e, add-zero n))

@@ -1,4 +1,4 @@
--- Refusal 19 by blocks: a line that is refused so is one with which the lines begin no blocks. Assumes nothing.
+-- Refusal 19 by blocks: the lines with the refused line begin no blocks. Assumes nothing.
 use Prim.Native.Nat.{ℕ, _+_, _≤_}
 use native.Mathlib.Omega.{arith}
 use mathlib.Core.Path.{_≡_, refl, sym, _∙_}
@@ -25,20 +25,20 @@ use Rattle.blocks.proofs.TextFaults.{never-own}
 use Rattle.blocks.proofs.NextLine.{ahead}
 use Rattle.blocks.proofs.PassedLines.{Walk, walk-back, walk-ahead, walk-append, closers, completed, passes-walk, passes-proper}
 
--- blocks as what may follow where no group is open, and back
+-- lines derive blocks exactly if they may follow while no group is open
 pub whole-rest : (ls : List (List ℕ)) (bs : Blocks) → Derives ls bs → Rest (depth bs) [] ls
 whole-rest ls bs d = record { blocks = bs; more = []; fits = d .words; deep = omega arith; lines = d .lines ∙ sym (append-nil _); next = refl }
 
 pub rest-whole : (most : ℕ) (ls : List (List ℕ)) → Rest most [] ls → Whole ls
 rest-whole most ls r = (r .blocks, record { lines = r .lines ∙ rw (r .next, append-nil); words = r .fits })
 
--- lines that lead from no group to some begin blocks
+-- lines that can be passed begin blocks
 pub walk-begins : (ls : List (List ℕ)) (gs : List Bool) → Walk [] ls gs → Begins ls
 walk-begins ls gs w =
     let most : ℕ = length ls + length gs in
     (closers gs, rest-whole most (ls ++ closers gs) (walk-back most ls [] gs (closers gs) (omega arith) w (completed most gs (omega arith))))
 
--- a line that moves the groups is one that they and its word let pass
+-- a line that changes the groups is one that they and its word let pass
 moves-can : {d : Directive} {fs gs : List Bool} → Moves d fs gs → Can d fs
 moves-can stay = tt
 moves-can (enter {d} {fs} o) = by d o
@@ -56,7 +56,7 @@ moves-can turn = tt
 moves-can final = tt
 moves-can leave = tt
 
--- any other line is refused 19, whatever its text says
+-- any other line is refused with 19, for any condition
 module _ (c : Condition) (n k : ℕ) (R : Type 0) where
   pub move-or-stray : (d : Directive) → (d ≡ Unknown → ⊥) → (gs : List Group) → ((hs : List Bool) → Moves d (flags gs) hs → R)
       → (decided d c n k gs ≡ stop 19 → R) → R
@@ -79,7 +79,7 @@ module _ (t : List ℕ) (ls : List (List ℕ)) (s : State) (p : Passes t 1 start
   walked : Walk [] ls (flags (s .groups))
   walked = passes-walk t ls 1 start s p
 
-  -- a line with which the lines begin blocks moves the groups
+  -- a line with which the lines begin blocks changes the groups
   begins-moves : (l : List ℕ) → Begins (ls ++ (l ∷ [])) → (gs : List Bool) × Moves (directiveOf l) (flags (s .groups)) gs
   begins-moves l b =
       let d : Derives (ls ++ (l ∷ b .0)) (b .1 .0) = rw append-assoc at (b .1 .1) in

@@ -1,4 +1,4 @@
--- A run that is refused 19 is refused at the first line with which the lines begin no blocks. Assumes nothing.
+-- A run that is refused with 19 is refused at the first line with which the lines begin no blocks. Assumes nothing.
 use Prim.Native.Nat.{ℕ, _+_, _≤_}
 use native.Mathlib.Omega.{arith}
 use mathlib.Core.Path.{_≡_, refl}
@@ -21,7 +21,7 @@ use Rattle.blocks.proofs.Passing.{StrayLine}
 use Rattle.blocks.proofs.Stops.{Stopped, Ended, refused-where}
 use Rattle.blocks.proofs.Stray.{not-both, stray}
 
--- a line that is refused 19 is within the limit
+-- a line that is refused with 19 is within the limit
 stray-short : (t : List ℕ) (n : ℕ) (s : State) (l : List ℕ) → step t n s l ≡ stop 19 → length l ≤ 1024
 unfolding step
 stray-short t n s l e = by (ltb 1024 (length l)) refl e
@@ -33,7 +33,7 @@ stray-short t n s l e = by (ltb 1024 (length l)) refl e
     by true q e = let z : _≡_ {A = ℕ} 17 19 = cc in absurd (omega arith)
     by false q e = ltb-false 1024 (length l) q
 
--- at the end of all lines a run is refused 21 alone
+-- at the end of all lines a run is refused only with 21
 pub at-end : (gs : List Group) (c r m : ℕ) → atEnd gs c ≡ refused r m → r ≡ 21
 at-end [] c r m e = let z : _≡_ {A = ℕ} 0 1 = cc in absurd (omega arith)
 at-end (group a b k ∷ gs) c r m e = let z : _≡_ {A = ℕ} 21 r = cc in omega arith

@@ -1,6 +1,5 @@
--- No text is wrong with a number from 17 to 21, which lines have: a malformed table is 1, reading meets 2 to 6, the rest of an expression 7
--- to 12, a condition 13, a directive's text 22.
--- Assumes nothing.
+-- No text is refused with a number from 17 to 21: a malformed table has 1, reading has 2 to 6, the rest of an expression 7 to 12, a
+-- condition 13, the text of a directive 22. Assumes nothing.
 use Prim.Native.Nat.{ℕ, zero, suc, _+_, _-_, _≤_}
 use native.Mathlib.Omega.{arith}
 use mathlib.Core.Path.{_≡_, refl}
@@ -32,14 +31,14 @@ use Rattle.grammar.specs.Fold.{fold}
 use Rattle.grammar.specs.Bars.{barOutside}
 use Rattle.grammar.specs.Parse.{Outcome, refused as underived, accepted, parse}
 use Rattle.grammar.proofs.Decided.{evaluates}
-use Rattle.value.specs.Values.{Value, number, string, wide, fault}
+use Rattle.value.specs.Values.{Value, number, string, wide, fault, RuntimeRefusal, HasKind}
 use Rattle.value.specs.Attributes.{Attributes}
-use Rattle.soundness.specs.Settled.{RuntimeRefusal, HasKind, KindSound}
+use Rattle.soundness.proofs.KindSound.{KindSound}
 use Rattle.value.specs.declared.Kind.{Kind}
 use Rattle.expression.specs.Meaning.{codeOf, meaning}
 use Rattle.evaluation.specs.Evaluation.{Evaluation, value, refused, answerValue, clashes, checkThenAnswer, tokenIn, answerTokens, ofTokens, ended, evaluation}
 use Rattle.evaluation.proofs.FromTree.{tokens-read}
-use Rattle.answers.proofs.Answered.{kind-sound, alive}
+use Rattle.answers.proofs.AnswersExact.{kind-sound, alive}
 use Rattle.line.specs.Directives.{directiveOf, textOf}
 use Rattle.line.specs.declared.Directive.{Directive}
 use Rattle.line.specs.declared.Directive.the-variants.{Plain, If, Ifdef, Ifndef, Elseif, Else, Endif, Unknown}
@@ -151,22 +150,22 @@ abbrev InAnswer : Evaluation → Type 0
 InAnswer (value v n) = Unit
 InAnswer (refused r) = Other-than (r .number)
 
-late : (n : ℕ) → RuntimeRefusal n → Other-than n
-late n (inl h) a b = omega arith
-late n (inr h) a b = omega arith
+runtime : (n : ℕ) → RuntimeRefusal n → Other-than n
+runtime n (inl h) a b = omega arith
+runtime n (inr h) a b = omega arith
 
-in-finished : (k : Kind) (v : Value) (n : ℕ) → HasKind k v → InAnswer (answerValue v n)
-in-finished k (number x) n h = tt
-in-finished k (string p s) n h = tt
-in-finished k (wide p s) n h = tt
-in-finished k (fault r) n h = late r h
+in-answer-value : (k : Kind) (v : Value) (n : ℕ) → HasKind k v → InAnswer (answerValue v n)
+in-answer-value k (number x) n h = tt
+in-answer-value k (string p s) n h = tt
+in-answer-value k (wide p s) n h = tt
+in-answer-value k (fault r) n h = runtime r h
 
-in-judged : (bar : Bool) (a : Attributes) → KindSound a → InAnswer (checkThenAnswer bar a)
-in-judged bar a h =
+in-check-then-answer : (bar : Bool) (a : Attributes) → KindSound a → InAnswer (checkThenAnswer bar a)
+in-check-then-answer bar a h =
     pick-case InAnswer bar (λ _ a b. omega arith)
     (λ _. pick-case InAnswer (a .missing) (λ _ a b. omega arith)
     (λ _. pick-case InAnswer (clashes (a .kind)) (λ _ a b. omega arith)
-    (λ c. in-finished (a .kind) (a .value) (a .count) (h (alive (a .kind) c)))))
+    (λ c. in-answer-value (a .kind) (a .value) (a .count) (h (alive (a .kind) c)))))
 
 in-answer : (e t : List ℕ) → InAnswer (evaluation e t)
 unfolding evaluation ofTokens
@@ -178,7 +177,7 @@ in-answer e t = pick-case InAnswer (wellFormed t) (λ _. by (reading e .ending) 
     parsed (accepted a) p =
         let r = evaluates (tokens-read e t) (meaning e t) .accepted-exactly a .0 p in
         let q : KindSound a = rw (r .2) (kind-sound e t (r .0)) in
-        in-judged (barOutside 0 (codesOf (reading e .tokens))) a q
+        in-check-then-answer (barOutside 0 (codesOf (reading e .tokens))) a q
 
     by : (x : Ending) → InEnding x
         → InAnswer (ended x (answerTokens (codesOf (reading e .tokens))
@@ -228,7 +227,7 @@ in-condition t Else s = in-nothing s
 in-condition t Endif s = in-nothing s
 in-condition t Unknown s = tt
 
--- what is heard of a line
+-- the condition of a line
 in-read-condition : (t : List ℕ) (gs : List Group) (l : List ℕ) → InCondition (readCondition t gs l)
 unfolding readCondition
 in-read-condition t gs l = pick-case InCondition (reads (directiveOf l) (stateOf gs)) (λ _. in-condition t (directiveOf l) (textOf l)) (λ _. tt)

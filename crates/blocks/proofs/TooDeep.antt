@@ -1,4 +1,4 @@
--- Refusal 20 by blocks: a line that is refused so is one with which the lines begin only blocks more than 16 deep. Assumes nothing.
+-- Refusal 20 by blocks: the lines with the refused line begin only blocks that are more than 16 deep. Assumes nothing.
 use Prim.Native.Nat.{ℕ, _+_, _≤_, _<_}
 use native.Mathlib.Omega.{arith}
 use mathlib.Core.Path.{_≡_, refl, sym, ap, _∙_}
@@ -29,7 +29,7 @@ use Rattle.blocks.proofs.PassedLines.{walk-ahead, closers, completed, p
 use Rattle.blocks.proofs.Stray.{whole-rest}
 use Rattle.blocks.proofs.OneInnermost.{along}
 
--- with as many groups open as may be, a further one is refused 20; with fewer it is not
+-- with 16 groups open a further one is refused with 20; with fewer it is not
 pub full : (d : Directive) → opens d ≡ true → (c : Condition) (n k : ℕ) (gs : List Group) → 16 ≤ length gs → decided d c n k gs ≡ stop 20
 unfolding decided opening
 full Plain o c n k gs h = absurd (false≢true o)
@@ -91,8 +91,8 @@ module _ (t : List ℕ) (ls : List (List ℕ)) (s : State) (p : Passes t 1 start
           let k = leb-false 16 (length (s .groups)) e in
           let a = flags-length (s .groups) in
           let m = closers (false ∷ flags (s .groups)) in
-          let closed = completed 16 (false ∷ flags (s .groups)) (omega arith) in
-          let entered = moved-back 16 l m (enter {fs = flags (s .groups)} o) refl (omega arith) (omega arith) closed in
+          let ended = completed 16 (false ∷ flags (s .groups)) (omega arith) in
+          let entered = moved-back 16 l m (enter {fs = flags (s .groups)} o) refl (omega arith) (omega arith) ended in
           let r = passes-back t ls 1 start s (l ∷ m) p (omega arith) .1 entered in
           let d : Derives (ls ++ (l ∷ m)) (r .blocks) = record { lines = r .lines ∙ rw (r .next, append-nil); words = r .fits } in
           absurd (omega (arith, h m (r .blocks) d, r .deep))

@@ -1,11 +1,11 @@
--- The lines of a run that is refused 19 derive no blocks; so those of the file with two `!else`. Assumes nothing.
+-- The lines of a run that is refused with 19 derive no blocks; an example is the file with two `!else`. Assumes nothing.
 use mathlib.Core.Path.{_≡_, sym, _∙_}
 use mathlib.Core.List.{[], _∷_, _++_, append-assoc}
 use Rattle.line.specs.Lines.{lines}
 use Rattle.blocks.specs.Blocks.{Derives}
 use Rattle.blocks.specs.Beginnings.{Whole}
 use Rattle.blocks.proofs.Passing.{StrayDerivesNone}
-use Rattle.blocks.specs.Examples.{twoElses, two-elses-refused}
+use Rattle.blocks.specs.BlockExamples.{twoElses, two-elses-refused}
 use Rattle.blocks.proofs.StrayLine.{stray-line}
 
 pub stray-derives-none : StrayDerivesNone

@@ -1,5 +1,5 @@
--- Lines derive one list of blocks at most: the word of a line says which block or branch it begins, and blocks end where a word
--- comes that begins none. Assumes nothing.
+-- Lines derive at most one list of blocks: the word of a line decides which block or branch it begins, and blocks end at a word that begins
+-- none. Assumes nothing.
 use Prim.Native.Nat.{ℕ, _≤_}
 use native.Mathlib.Omega.{arith}
 use mathlib.Core.Path.{_≡_, refl, sym, ap}

@@ -1,4 +1,4 @@
--- Refusal 21 by the words alone: the innermost open `!if` is followed by lines that never left its group. Assumes nothing.
+-- Refusal 21 by the words alone: the lines after the innermost open `!if` stay inside its group. Assumes nothing.
 use Prim.Native.Nat.{ℕ, _+_, _≤_, _<_}
 use native.Mathlib.Omega.{arith}
 use mathlib.Core.Path.{_≡_, refl, sym, ap, _∙_}
@@ -22,7 +22,7 @@ use Rattle.blocks.proofs.AcceptedBlocks.{passed}
 use Rattle.blocks.proofs.PassedLines.{Walk, moves-grow, walk-back, walk-ahead, passes-walk}
 use Rattle.blocks.proofs.Stray.{whole-rest, rest-whole}
 
--- lines before each of which a group is open
+-- lines with an open group before each of them
 abbrev Inner : List Bool → List (List ℕ) → List Bool → Type 0
 Inner fs [] gs = fs ≡ gs
 Inner fs (l ∷ ls) gs = Some fs × (hs : List Bool) × Moves (directiveOf l) fs hs × Inner hs ls gs
@@ -38,7 +38,7 @@ inner-append : (ls ms : List (List ℕ)) (fs gs hs : List Bool) → Inner fs ls 
 inner-append [] ms fs gs hs e w = rw e w
 inner-append (l ∷ ls) ms fs gs hs v w = (v .0, v .1, v .2, inner-append ls ms (v .1) gs hs (v .3) w)
 
--- the same with one more group around
+-- the same inside one more group
 moves-lift : {d : Directive} {fs gs : List Bool} (hs : List Bool) → Moves d fs gs → Moves d (fs ++ hs) (gs ++ hs)
 moves-lift hs stay = stay
 moves-lift hs (enter o) = enter o
@@ -129,7 +129,7 @@ module _ (t : List ℕ) where
       let r = passes-run ls (n + 1) (p .1) s′ (p .3) in
       (p .0 ∷ r .0, run-go t n s l ls (p .0) (p .1) (p .2) ∙ rw (r .1))
 
--- where a group is open something has to follow
+-- if a group is open, some line has to follow
 some-lines : (os : Branches) (ls : List (List ℕ)) → 0 < length (linesIn os ++ ls)
 some-lines (endif l) ls = omega arith
 some-lines (elseif l body os) ls = omega arith

@@ -1,4 +1,4 @@
--- Lines that blocks begin with, and the group that is open at their end (document 01, "Refusal numbers", 19 and 21).
+-- Lines that are the beginning of blocks, and the group that is open at their end (document 01, "Refusal numbers", 19 and 21).
 use Prim.Native.Nat.{ℕ, _+_}
 use mathlib.Core.Path.{_≡_}
 use mathlib.Core.Bool.{true}

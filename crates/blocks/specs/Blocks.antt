@@ -1,5 +1,5 @@
--- The blocks of a file (document 01, "Lines and directives"): plain lines, and groups from an `!if` to its `!endif`. Which blocks the lines
--- of a file make depends on their words alone. There is no machine here; Meaning.antt says what blocks mean.
+-- The blocks of a file (document 01, "Lines and directives"): plain lines, and groups from an `!if` to its `!endif`. The blocks that lines
+-- derive depend on the words of the lines alone. Meaning.antt defines what blocks mean.
 use Prim.Native.Nat.{ℕ, suc, max}
 use mathlib.Core.Path.{_≡_}
 use mathlib.Core.Bool.{Bool, true, false}
@@ -44,7 +44,7 @@ opens Else = false
 opens Endif = false
 opens Unknown = false
 
--- each line has the word that its place asks for
+-- each line has a word that fits its place in the blocks
 abbrev mutual
   pub Fits : Blocks → Type 0
   Fits empty = Unit

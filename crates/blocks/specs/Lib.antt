@@ -1,7 +1,8 @@
 pub mod Blocks
 pub mod Meaning
 pub mod Reading
-pub mod Decides
 pub mod Beginnings
 pub mod Refused
-pub mod Examples
+pub mod ConditionExamples
+pub mod SelectionExamples
+pub mod BlockExamples

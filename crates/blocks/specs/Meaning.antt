@@ -1,6 +1,6 @@
--- What blocks mean over a table (document 01, "Lines and directives"): a mark for each line and the number of operators that were applied,
--- or the first fault. By recursion on blocks, with whether the branch around them is taken.
-use Prim.Native.Nat.{ℕ, _+_}
+-- The meaning of blocks over a table (document 01, "Lines and directives"): a mark for each line and the number of operators that were
+-- applied, or the first fault. The recursion goes over blocks, and carries whether the branch around them is taken.
+use Prim.Native.Nat.{ℕ, _+_, _≤_}
 use mathlib.Core.Bool.{Bool, true, false, not, _&&_}
 use mathlib.Core.List.{List, [], _∷_, _++_}
 use lib.ListN.{length}
@@ -10,10 +10,11 @@ use Rattle.line.specs.declared.Directive.the-variants.{Elseif, Else, Endif}
 use Rattle.condition.specs.Conditions.{evaluate}
 use Rattle.line.specs.declared.Condition.{Condition}
 use Rattle.line.specs.declared.Condition.the-variants.{Holds, Fails, Refused}
+use Rattle.select.specs.Select.{Result, accepted, refused}
 use Rattle.blocks.specs.Blocks.{Blocks, empty, line, group, Branches, endif, elseif, else}
 
--- The marks of lines and their count of operators; or the number of the first fault and how many of the lines come before it. Marks: 0
--- plain, dropped; 1 plain, kept; 2 directive not read; 3 read, branch not taken; 4 read, branch taken; 5 read `!endif`.
+-- The marks of lines and their count of operators; or the number of the first fault and the number of lines before it. Marks: 0 plain line,
+-- dropped; 1 plain line, kept; 2 directive not read; 3 read, branch not taken; 4 read, branch taken; 5 read `!endif`.
 pub data Meaning : Type 0 where
   means : (marks : List ℕ) → (count : ℕ) → Meaning
   fault : (number before : ℕ) → Meaning
@@ -29,8 +30,8 @@ means ms c then means ns d = means (ms ++ ns) (c + d)
 means ms c then fault r i = fault r (length ms + i)
 fault r i then m = fault r i
 
--- A branch: its line, its body, and the other branches after it. What the line's text says counts only where the line is read. The body is
--- given whether this branch is taken, the other branches whether one of the group was taken so far.
+-- A branch: its line, its body, and the branches after it. The condition counts only if the line is read. The argument of `body` is whether
+-- this branch is taken; that of `others` is whether one of the group was taken so far.
 abbrev pub branch : (read : Bool) → Condition → (earlier : Bool) → (body others : Bool → Meaning) → Meaning
 branch false c earlier body others = single 2 0 then body false then others earlier
 branch true (Holds n) earlier body others = single 4 n then body true then others true
@@ -50,9 +51,8 @@ closing true (Holds n) = single 5 n
 closing true (Fails n) = single 5 n
 closing true (Refused r) = fault r 0
 
--- The reading rule: `!if`, `!ifdef`, `!ifndef`, `!else` and `!endif` are read where the branch around their whole group is taken;
--- `!elseif` where, besides, no earlier branch of its group was taken. The blocks of a whole file have no branch around them, which counts as
--- taken.
+-- The reading rule: `!if`, `!ifdef`, `!ifndef`, `!else` and `!endif` are read if the branch around their group is taken; `!elseif` is read
+-- if also no earlier branch of its group was taken. The blocks of a whole file have no branch around them, which counts as taken.
 unfoldable mutual
   pub meaning : (t : List ℕ) → (around : Bool) → Blocks → Meaning
   meaning t around empty = means [] 0
@@ -67,3 +67,13 @@ unfoldable mutual
       branch (around && not earlier) (evaluate t Elseif (textOf l)) earlier (λ live. meaning t live body) (λ earlier′. branches t around earlier′ os)
   branches t around earlier (else l body e) =
       branch around (otherwise earlier (evaluate t Else (textOf l))) earlier (λ live. meaning t live body) (λ _. closing around (evaluate t Endif (textOf e)))
+
+-- the result of a run over lines with this meaning: a fault is refused at its line, and lines count from 1
+abbrev pub resultOf : Meaning → Result
+resultOf (means ms c) = accepted ms c
+resultOf (fault r i) = refused r (i + 1)
+
+-- no line is over 1,024 bytes (document 01, refusal 17)
+abbrev pub WithinLimit : List (List ℕ) → Type 0
+WithinLimit [] = Unit
+WithinLimit (l ∷ ls) = (length l ≤ 1024) × WithinLimit ls

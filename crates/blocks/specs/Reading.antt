@@ -1,5 +1,5 @@
--- Which directives are read, line by line, by blocks (document 01, "Lines and directives": a directive is read when its outcome depends on
--- it). Decides.antt says that the marks of a selection show just these lines.
+-- Which directives are read, line by line, by blocks (document 01, "Lines and directives": a directive is read if its outcome depends on
+-- it). `marks-show-reading` of the page of theorems is that the marks of a selection show exactly these lines.
 use Prim.Native.Nat.{ℕ}
 use mathlib.Core.Bool.{Bool, true, false, not, _&&_, _||_}
 use mathlib.Core.List.{List, [], _∷_, _++_}
@@ -10,14 +10,14 @@ use Rattle.line.specs.declared.Condition.{Condition}
 use Rattle.line.specs.declared.Condition.the-variants.{Holds, Fails, Refused}
 use Rattle.blocks.specs.Blocks.{Blocks, empty, line, group, Branches, endif, elseif, else}
 
--- whether a condition lets its branch be taken
+-- whether a condition holds, so that its branch is taken
 abbrev pub holds : Condition → Bool
 holds (Holds n) = true
 holds (Fails n) = false
 holds (Refused r) = false
 
--- For each line, whether it is a directive that is read. `around`: the branch around the blocks is taken. `earlier`: an earlier branch of the
--- group was taken. A plain line is never read.
+-- For each line, whether it is a directive that is read. `around`: the branch around the blocks is taken. `earlier`: an earlier branch of
+-- the group was taken. A plain line is never read.
 unfoldable mutual
   pub readsOf : (t : List ℕ) → (around : Bool) → Blocks → List Bool
   readsOf t around empty = []

@@ -1,20 +1,17 @@
--- Every refusal of a run over lines, by blocks alone (document 01, "Refusal numbers"): at which line, and why there. proofs/Refused.antt has
--- the proof. The refusals before any line (1, 14, 15, 16) are in the definition of `selection`.
+-- Every refusal of a run over lines, by blocks alone (document 01, "Refusal numbers"): at which line, and for which reason. The refusals
+-- before any line (1, 14, 15, 16) are in the definition of `selection`.
 use Prim.Native.Nat.{ℕ, _+_, _≤_, _<_}
 use mathlib.Core.Path.{_≡_}
-use mathlib.Core.Logic.{_↔_, _⊎_}
 use mathlib.Core.Bool.{true}
 use mathlib.Core.List.{List, [], _∷_, _++_}
 use lib.ListN.{length}
 use Rattle.line.specs.Directives.{directiveOf}
 use Rattle.line.specs.declared.Directive.the-variants.{Unknown}
-use Rattle.select.specs.Select.{refused, run, start}
 use Rattle.blocks.specs.Blocks.{Blocks, opens, Derives, depth}
-use Rattle.blocks.specs.Meaning.{means, fault, meaning}
-use Rattle.blocks.specs.Decides.{WithinLimit}
+use Rattle.blocks.specs.Meaning.{means, fault, meaning, WithinLimit}
 use Rattle.blocks.specs.Beginnings.{Whole, Begins, Innermost}
 
--- none of these lines is refused over a table t: with some lines after them they derive blocks within the limits that mean no fault
+-- none of these lines is refused over a table t: with some lines after them they derive blocks within the limits whose meaning is no fault
 pub record Passable (t : List ℕ) (ls : List (List ℕ)) : Type 0 where
   pub more : List (List ℕ)
   pub blocks : Blocks
@@ -25,19 +22,19 @@ pub record Passable (t : List ℕ) (ls : List (List ℕ)) : Type 0 where
   pub count : ℕ
   pub meant : meaning t true blocks ≡ means marks count
 
--- why the line l is refused after the lines ls, with each number that a line can be refused with
+-- the reason why line l is refused after the lines ls, for each number that a line can be refused with
 pub data Refuses (t : List ℕ) (ls : List (List ℕ)) (l : List ℕ) : ℕ → Type 0 where
   -- 17: it is over 1,024 bytes
   long : 1024 < length l → Refuses t ls l 17
   -- 18: its word is unknown
   unknown : length l ≤ 1024 → directiveOf l ≡ Unknown → Refuses t ls l 18
-  -- 19: the lines begin no blocks with it
+  -- 19: the lines with it begin no blocks
   stray : length l ≤ 1024 → (directiveOf l ≡ Unknown → ⊥) → (Begins (ls ++ (l ∷ [])) → ⊥) → Refuses t ls l 19
-  -- 20: it opens a group, and all blocks that the lines begin with it are more than 16 deep
+  -- 20: it opens a group, and all blocks that the lines with it begin are more than 16 deep
   deep : length l ≤ 1024 → opens (directiveOf l) ≡ true
       → ((more : List (List ℕ)) (bs : Blocks) → Derives (ls ++ (l ∷ more)) bs → 16 < depth bs)
       → Refuses t ls l 20
-  -- any other number: blocks within the limits that the lines begin with it mean this fault, at this line
+  -- any other number: the lines with it begin blocks within the limits, and the meaning of these is this fault at this line
   faulty : {r : ℕ} (more : List (List ℕ)) (bs : Blocks) → Derives (ls ++ (l ∷ more)) bs → depth bs ≤ 16 → WithinLimit (ls ++ (l ∷ more))
       → meaning t true bs ≡ fault r (length ls)
       → Refuses t ls l r
@@ -52,21 +49,8 @@ pub record RefusedAt (t : List ℕ) (ls : List (List ℕ)) (r n : ℕ) : Type 0 
   pub passable : Passable t before
   pub reason : Refuses t before refusing r
 
--- no line is refused, but a group is open at the end, and its `!if` is line n
+-- no line is refused, a group is open at the end, and its `!if` is line n
 pub record RefusedAtEnd (t : List ℕ) (ls : List (List ℕ)) (n : ℕ) : Type 0 where
   pub passable : Passable t ls
   pub unfinished : Whole ls → ⊥
   pub innermost : Innermost ls n
-
--- a run is refused with a number and a line exactly if blocks say so
-abbrev pub Refused : Type 0
-Refused = (t : List ℕ) (ls : List (List ℕ)) (r n : ℕ)
-    → (run t 1 start ls ≡ refused r n) ↔ (RefusedAt t ls r n ⊎ ((r ≡ 21) × RefusedAtEnd t ls n))
-
--- no two of the reasons share a number: a fault never has one of 17 to 21
-abbrev pub FaultNumbers : Type 0
-FaultNumbers = (t : List ℕ) (bs : Blocks) (r i : ℕ) → meaning t true bs ≡ fault r i → 17 ≤ r → r ≤ 21 → ⊥
-
--- and one line at most is the innermost open `!if`
-abbrev pub OneInnermost : Type 0
-OneInnermost = (ls : List (List ℕ)) (m k : ℕ) → Innermost ls m → Innermost ls k → m ≡ k

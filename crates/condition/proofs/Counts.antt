@@ -1,4 +1,4 @@
--- A condition's count of operators is below 200, the most tokens that an expression has. Assumes nothing.
+-- The count of operators of a condition is below 200, the largest number of tokens in an expression. Assumes nothing.
 use Prim.Native.Nat.{ℕ, _<_}
 use native.Mathlib.Omega.{arith}
 use mathlib.Core.Path.{_≡_, refl}

@@ -1,4 +1,4 @@
--- Where the blanks of a text end, and where a macro's name in `$(NAME)` does. Assumes nothing.
+-- The end of the blanks in a text, and of the name in `$(NAME)`. Assumes nothing.
 use Prim.Native.Nat.{ℕ, _+_, _-_, _≤_, _<_}
 use native.Mathlib.Omega.{arith}
 use mathlib.Core.Path.{_≡_, sym}
@@ -33,11 +33,11 @@ module _ (s : List ℕ) {first : ℕ} (to : first ≡ 0 + span Blanks s) where
   pub past-blanks : take (length s - first) (drop first s) ≡ drop (span Blanks s) s
   past-blanks = let blanks : first ≡ span Blanks s = omega arith in rw (part-rest, blanks)
 
--- a text with a parenthesis behind its first byte
+-- a text with a parenthesis after its first byte
 pub parenthesis-inside : (s : List ℕ) → getD s 1 0 ≡ byte "(" → 1 < length s
 parenthesis-inside s h = inside s 1 (λ z. omega arith)
 
--- the name behind that parenthesis has n bytes
+-- the name after that parenthesis has n bytes
 module _ (s : List ℕ) {n : ℕ} (of : n ≡ macroName (take (length s - 2) (drop 2 s))) where
   pub used-length : macroName (drop 2 s) ≡ n
   used-length = rw (← part-rest s 2) (sym of)

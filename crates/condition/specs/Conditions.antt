@@ -1,5 +1,5 @@
--- What the text after a directive's word says, where the directive is read (document 01, "Lines and directives"): whether its branch is
--- taken, and how many operators were applied to find out; or the refusal: 22, then the expression's own, then 13.
+-- The condition in the text after the word of a directive that is read (document 01, "Lines and directives"): it holds or fails, with the
+-- number of operators that were applied; or it is refused: 22, then the refusals of the expression, then 13.
 use Prim.Native.Nat.{ℕ, _+_}
 use mathlib.Core.Bool.{Bool, true, false, not, _&&_, _||_}
 use mathlib.Core.List.{List}
@@ -19,25 +19,25 @@ use Rattle.line.specs.declared.Condition.{Condition}
 use Rattle.line.specs.declared.Condition.the-variants.{Holds, Fails, Refused}
 use Rattle.condition.specs.declared.macros.Named.{Named}
 
--- how many operators were applied, none with a refusal
+-- the number of operators that were applied, 0 for a refusal
 abbrev pub countOf : Condition → ℕ
 countOf (Holds n) = n
 countOf (Fails n) = n
 countOf (Refused r) = 0
 
--- a blank stands directly after the word
+-- a blank follows the word directly
 abbrev pub spaced : List ℕ → Bool
 spaced s = blank (getD s 0 0)
 
--- nothing but blanks, and a comment where there is one
+-- only blanks and an optional comment
 unfoldable pub idle : List ℕ → Bool
 idle s = leb (length s) (span Blanks s) || eqb (getD s (span Blanks s) 0) (byte "#")
 
--- an expression's number, with its count of operators, as a condition: 1 or 0
+-- a number, with its count of operators, as a condition: 1 holds, 0 fails, any other is refused
 abbrev pub ofNumber : (x count : ℕ) → Condition
 ofNumber x n = pick (eqb x 1) (Holds n) (pick (eqb x 0) (Fails n) (Refused CONDITION-VALUE))
 
--- an expression's answer as a condition (an answer never has a fault for its value)
+-- the answer to an expression as a condition (the value of an answer is never a fault)
 unfoldable pub ofAnswer : Evaluation → Condition
 ofAnswer (value (number x) n) = ofNumber x n
 ofAnswer (value (string p s) n) = Refused CONDITION-VALUE
@@ -49,7 +49,7 @@ ofAnswer (refused r) = Refused (r .number)
 unfoldable pub ofExpression : (t : List ℕ) → List ℕ → Condition
 ofExpression t s = pick (spaced s) (ofAnswer (evaluation s t)) (Refused TEXT-MALFORMED)
 
--- a macro's name at the front of a text: where it starts, how long it is, 0 where none stands there, and where the text goes on
+-- the name of a macro at the front of a text: its start, its length, which is 0 if there is none, and the start of the text after it
 abbrev pub nameOver : (start len after : ℕ) → Named
 nameOver a n z = record { start = record { 0 = a }; len = n; after = record { 0 = z } }
 
@@ -57,7 +57,7 @@ nameOver a n z = record { start = record { 0 = a }; len = n; after = record { 0 
 abbrev pub plainName : List ℕ → Named
 plainName s = nameOver 0 (macroName s) (macroName s)
 
--- `$(NAME)`, where the name is n bytes long; none where a parenthesis is lacking
+-- `$(NAME)` with a name of n bytes; there is none if a parenthesis is missing
 abbrev pub usedOver : ℕ → List ℕ → Named
 usedOver n s = pick (eqb (getD s 1 0) (byte "(") && eqb (getD s (2 + n) 0) (byte ")")) (nameOver 2 n (n + 3)) (nameOver 0 0 0)
 
@@ -71,23 +71,23 @@ nameAt s = pick (eqb (getD s 0 0) (byte "$")) (usedName s) (plainName s)
 abbrev pub tested : Bool → Condition
 tested b = pick b (Holds 0) (Fails 0)
 
--- whether the table has a name, or does not, as wanted
+-- whether a name is in the table, or is missing, as wanted
 abbrev pub decided : (wanted missing : Bool) → Condition
 decided wanted missing = tested (pick wanted (not missing) missing)
 
--- a name stands at the front, and after it come blanks and a comment alone
+-- there is a name at the front, and only blanks and an optional comment follow it
 abbrev pub alone : List ℕ → Named → Bool
 alone s n = ltb 0 (n .len) && idle (drop (n .after .0) s)
 
--- the table has nothing under the name
+-- the table has no record under the name
 abbrev pub absent : (t : List ℕ) → List ℕ → Named → Bool
 absent t s n = isMissing (settingUnder t (take (n .len) (drop (n .start .0) s)))
 
--- a text s that has this name at its front
+-- the condition in a text s with this name at its front
 unfoldable pub ofNamed : (t : List ℕ) → (wanted : Bool) → List ℕ → Named → Condition
 ofNamed t wanted s n = pick (alone s n) (decided wanted (absent t s n)) (Refused TEXT-MALFORMED)
 
--- `!ifdef` where `wanted` is true, `!ifndef` where it is false: one macro's name, with blanks before it, blanks and a comment after it
+-- `!ifdef` if `wanted` is true, `!ifndef` if it is false: the name of one macro, after blanks, before blanks and an optional comment
 unfoldable pub ofMacro : (t : List ℕ) → (wanted : Bool) → List ℕ → Condition
 ofMacro t wanted s =
     let m : List ℕ = drop (span Blanks s) s in
@@ -97,7 +97,7 @@ ofMacro t wanted s =
 abbrev pub ofNothing : List ℕ → Condition
 ofNothing s = pick (idle s) (Holds 0) (Refused TEXT-MALFORMED)
 
--- the text s after a directive's word, over a table t; a line that is plain, or whose word is unknown, is never asked
+-- the condition in the text s after the word of a directive, over a table t; a plain line and an unknown word get a fixed one
 unfoldable pub evaluate : (t : List ℕ) → Directive → List ℕ → Condition
 evaluate t If s = ofExpression t s
 evaluate t Elseif s = ofExpression t s

@@ -8,14 +8,14 @@ ghost use mathlib.Core.Path.{_≡_};
 ghost use lib.ListN.{drop};
 ghost use Rattle.condition.specs.Conditions.{spaced, idle, ofNothing};
 
-// Whether a blank stands directly after the word.
+// Whether a blank follows the word directly.
 pub fn is_spaced(text: &[u8]) -> bool
     ensures { λ r. ⌜ r ≡ spaced (now (text .entry)) ⌝ }
 {
     runs::has(Set::Blanks, bytes::byte_at(text, Offset(0)))
 }
 
-// Whether nothing but blanks, and a comment where there is one, stands from a byte on.
+// Whether only blanks and an optional comment follow.
 pub fn is_idle(text: &[u8], from: Offset) -> bool
     ensures { λ r. ⌜ r ≡ idle (drop (from .0) (now (text .entry))) ⌝ }
 {

@@ -1,4 +1,4 @@
-// `!if` and `!elseif`: an expression's answer as a condition.
+// `!if` and `!elseif`: the answer to an expression as a condition.
 use crate::blanks;
 use evaluation::Answer;
 use evaluation::AnswerValue;

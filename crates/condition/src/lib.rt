@@ -1,4 +1,4 @@
-// What the text of a directive says where it is read.
+// The condition in the text of a directive.
 mod blanks;
 mod expressions;
 mod macros;
@@ -8,13 +8,12 @@ use line::Directive;
 ghost use mathlib.Core.Path.{_≡_};
 ghost use mathlib.Core.Bool.{true};
 ghost use Rattle.settings.specs.Table.{wellFormed};
-ghost use Rattle.condition.specs.Conditions.{evaluate as saidBy};
+ghost use Rattle.condition.specs.Conditions.{evaluate as evaluateOf};
 
-// What the text after a directive's word says. What it is for a line that is plain, or whose word is unknown, is fixed too, so that any
-// line may be asked.
+// The condition in the text after the word of a directive. A plain line and an unknown word get a fixed condition.
 pub fn evaluate<'a>(table: &'a [u8], d: Directive, text: &'a [u8]) -> Condition
     requires { ⌜ wellFormed (now table) ≡ true ⌝ }
-    ensures { λ r. ⌜ r ≡ saidBy (now (table .entry)) d (now (text .entry)) ⌝ }
+    ensures { λ r. ⌜ r ≡ evaluateOf (now (table .entry)) d (now (text .entry)) ⌝ }
 {
     match d {
         Directive::If => expressions::of_expression(table, text),

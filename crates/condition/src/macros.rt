@@ -1,4 +1,4 @@
-// `!ifdef` and `!ifndef`: one macro's name.
+// `!ifdef` and `!ifndef`: the name of one macro.
 use crate::blanks;
 use line::Condition;
 use text::bytes;
@@ -13,7 +13,7 @@ ghost use mathlib.Core.Bool.{true};
 ghost use Rattle.settings.specs.Table.{wellFormed};
 ghost use Rattle.condition.specs.Conditions.{nameOver, plainName, usedName, nameAt, tested, decided, ofNamed, ofMacro};
 
-// A macro's name at the front of a text: where it starts, how long it is, 0 where none stands there, and where the text goes on.
+// The name of a macro at the front of a text: its start, its length, which is 0 if there is none, and the start of the text after it.
 pub struct Named {
     pub start: Offset,
     pub len: usize,
@@ -68,7 +68,7 @@ fn as_condition(holds: bool) -> Condition
     }
 }
 
-// Whether the table has a name, or does not, as wanted.
+// Whether a name is in the table, or is missing, as wanted.
 fn decide(wanted: bool, missing: bool) -> Condition
     ensures { λ r. ⌜ r ≡ decided wanted missing ⌝ }
 {
@@ -78,7 +78,7 @@ fn decide(wanted: bool, missing: bool) -> Condition
     as_condition(missing)
 }
 
-// A text that has this name at its front.
+// The condition in a text with this name at its front.
 fn of_named(table: &[u8], wanted: bool, text: &[u8], n: Named) -> Condition
     requires { ⌜ wellFormed (now table) ≡ true ⌝ }
     ensures { λ r. ⌜ r ≡ ofNamed (now (table .entry)) wanted (now (text .entry)) n ⌝ }
@@ -95,7 +95,7 @@ fn of_named(table: &[u8], wanted: bool, text: &[u8], n: Named) -> Condition
     decide(wanted, values::is_missing(lookup::lookup(table, name)))
 }
 
-// `!ifdef` where `wanted` is true, `!ifndef` where it is false.
+// `!ifdef` if `wanted` is true, `!ifndef` if it is false.
 pub fn of_macro(table: &[u8], wanted: bool, text: &[u8]) -> Condition
     requires { ⌜ wellFormed (now table) ≡ true ⌝ }
     ensures { λ r. ⌜ r ≡ ofMacro (now (table .entry)) wanted (now (text .entry)) ⌝ }

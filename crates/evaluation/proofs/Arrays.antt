@@ -1,4 +1,4 @@
--- After a scan the arrays hold the tokens: token by token they read as the list does. Assumes nothing.
+-- After a scan the arrays hold the tokens of the list, one after the other. Assumes nothing.
 use Prim.Native.Nat.{ℕ, zero, suc, _+_, _≤_, _<_}
 use native.Mathlib.Omega.{arith}
 use mathlib.Core.Path.{_≡_, refl, ap, _∙_, fun-ext}
@@ -19,7 +19,7 @@ use Rattle.expression.specs.Meaning.{codeOf, meaning}
 use Rattle.expression.specs.Parsing.{tokenAt, Holding}
 use Rattle.evaluation.specs.Evaluation.{END-TOKEN, tokenIn, answerTokens, ofTokens, evaluation}
 
--- one entry of each token, stored in a list that has room
+-- one entry of each token, stored in a list with room for all
 module _ (f : Token → ℕ) (ts : List Token) (l l′ : List ℕ) (fits : length ts ≤ length l) (so : l′ ≡ stored (map f ts) l) where
   rest : List ℕ
   rest = drop (0 + length (map f ts)) l
@@ -68,7 +68,7 @@ module _ (e t : List ℕ) {cs₀ ss₀ ls₀ vs₀ cs ss ls vs : List ℕ} (room
     kept : (f : Token → ℕ) (l l′ : List ℕ) → l′ ≡ stored (map f (reading e .tokens)) l → length l′ ≡ length l
     kept f l l′ q = ap length q ∙ length-sets l 0 (map f (reading e .tokens))
 
-    -- the arrays have the tokens
+    -- the arrays hold the tokens
     pub holding : (n : ℕ) → n ≡ length (reading e .tokens) → Holding cs ss ls vs n
     holding n c =
         record {
@@ -79,7 +79,7 @@ module _ (e t : List ℕ) {cs₀ ss₀ ls₀ vs₀ cs ss ls vs : List ℕ} (room
           values = omega (arith, c, room .values-hold, kept (λ k. k .value) vs₀ vs (so .values-are));
         }
 
-    -- where the table is well formed and reading met no refusal, the answer to the arrays is the answer to the expression
+    -- if the table is well formed and reading met no refusal, the answer to the arrays is the answer to the expression
     pub answers : wellFormed t ≡ true → (n : ℕ) → n ≡ length (reading e .tokens) → reading e .ending ≡ Complete
         → answerTokens (take n cs) (parse codeOf (meaning e t) (tokenAt cs ss ls vs n) n) ≡ evaluation e t
     unfolding evaluation ofTokens

@@ -12,7 +12,7 @@ use Rattle.text.specs.Bytes.{pick}
 use Rattle.grammar.specs.Bars.{isBar, deeper, barOutside}
 
 module _ (cs : List ℕ) (n : ℕ) (fits : n ≤ length cs) (i depth : ℕ) where
-  -- one token more
+  -- one more token
   pub on : i < n
       → barOutside depth (drop i (take n cs)) ≡ ((isBar (getD cs i 0) && eqb depth 0) || barOutside (deeper depth (getD cs i 0)) (drop (i + 1) (take n cs)))
   unfolding barOutside
@@ -21,14 +21,14 @@ module _ (cs : List ℕ) (n : ℕ) (fits : n ≤ length cs) (i depth : ℕ) wher
       let g : getD (take n cs) i 0 ≡ getD cs i 0 = getD-take n cs i 0 h in
       rw (drop-cons (take n cs) i 0 l, g, add-one i)
 
-  -- none is left
+  -- after the last token
   pub over : n ≤ i → barOutside depth (drop i (take n cs)) ≡ false
   unfolding barOutside
   over h =
       let l : length (take n cs) ≤ i = omega (arith, length-take-le n cs fits) in
       rw (drop-of-length-le (take n cs) l)
 
--- one parenthesis more at most
+-- at most one more open parenthesis
 pub deeper-most : (depth c : ℕ) → deeper depth c ≤ depth + 1
 deeper-most depth c = by (eqb c 10) (eqb c 11)
   where

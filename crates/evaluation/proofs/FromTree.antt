@@ -1,4 +1,5 @@
--- A value is that of a tree which the tokens derive, with fewer operators applied than there are tokens. Assumes nothing.
+-- A value that is answered is that of a tree which the tokens derive, and fewer operators were applied than there are tokens. Assumes
+-- nothing.
 use Prim.Native.Nat.{ℕ, _<_}
 use native.Mathlib.Omega.{arith}
 use mathlib.Core.Path.{_≡_, refl}
@@ -26,32 +27,32 @@ use Rattle.expression.proofs.Ready.{counts}
 use Rattle.evaluation.specs.Evaluation.{Evaluation, value, refused, refusedWith, answerValue, clashes, checkThenAnswer, END-TOKEN}
 use Rattle.evaluation.specs.Evaluation.{tokenIn, answerTokens, ofTokens, ended, evaluation}
 
--- what a value tells of the attributes that gave it: their kinds do not clash, and it is theirs and no fault
-pub record Told (v : Value) (n : ℕ) (a : Attributes) : Type 0 where
+-- the attributes of an answered value: their kinds do not clash, and their value is no fault
+pub record GivenBy (v : Value) (n : ℕ) (a : Attributes) : Type 0 where
   pub suited : clashes (a .kind) ≡ false
   pub given : answerValue v n ≡ value v n
   pub count : n ≡ a .count
   pub value : v ≡ a .value
 
 module _ (v : Value) (n : ℕ) where
-  abbrev Tells : Attributes → Evaluation → Type 0
-  Tells a x = x ≡ value v n → Told v n a
+  abbrev IfValue : Attributes → Evaluation → Type 0
+  IfValue a x = x ≡ value v n → GivenBy v n a
 
   pub never : (r : Refusal) → refused r ≡ value v n → ⊥
   never r e = let z : _≡_ {A = ℕ} 0 1 = cc in omega arith
 
-  finished-tells : (a : Attributes) → clashes (a .kind) ≡ false → (w : Value) → a .value ≡ w → Tells a (answerValue w (a .count))
-  finished-tells a h (number x) g e = let w : v ≡ number x = cc in record { suited = h; count = cc; value = cc; given = rw w }
-  finished-tells a h (string p s) g e = let w : v ≡ string p s = cc in record { suited = h; count = cc; value = cc; given = rw w }
-  finished-tells a h (wide p s) g e = let w : v ≡ wide p s = cc in record { suited = h; count = cc; value = cc; given = rw w }
-  finished-tells a h (fault r) g e = absurd (never (refusal r) e)
+  answer-value-given : (a : Attributes) → clashes (a .kind) ≡ false → (w : Value) → a .value ≡ w → IfValue a (answerValue w (a .count))
+  answer-value-given a h (number x) g e = let w : v ≡ number x = cc in record { suited = h; count = cc; value = cc; given = rw w }
+  answer-value-given a h (string p s) g e = let w : v ≡ string p s = cc in record { suited = h; count = cc; value = cc; given = rw w }
+  answer-value-given a h (wide p s) g e = let w : v ≡ wide p s = cc in record { suited = h; count = cc; value = cc; given = rw w }
+  answer-value-given a h (fault r) g e = absurd (never (refusal r) e)
 
-  pub judged-tells : (bar : Bool) (a : Attributes) → Tells a (checkThenAnswer bar a)
-  judged-tells bar a =
-      pick-case (Tells a) bar (λ _ e. absurd (never _ e))
-      (λ _. pick-case (Tells a) (a .missing) (λ _ e. absurd (never _ e))
-      (λ _. pick-case (Tells a) (clashes (a .kind)) (λ _ e. absurd (never _ e))
-      (λ c. finished-tells a c (a .value) refl)))
+  pub check-then-answer-given : (bar : Bool) (a : Attributes) → IfValue a (checkThenAnswer bar a)
+  check-then-answer-given bar a =
+      pick-case (IfValue a) bar (λ _ e. absurd (never _ e))
+      (λ _. pick-case (IfValue a) (a .missing) (λ _ e. absurd (never _ e))
+      (λ _. pick-case (IfValue a) (clashes (a .kind)) (λ _ e. absurd (never _ e))
+      (λ c. answer-value-given a c (a .value) refl)))
 
 module _ (e t : List ℕ) where
   pub tokens-read : Reads codeOf (reading e .tokens) (tokenIn (reading e .tokens))
@@ -59,9 +60,9 @@ module _ (e t : List ℕ) where
 
   -- a value is that of a tree that the tokens derive
   abbrev FromTree : (v : Value) (n : ℕ) → Type 0
-  FromTree v n = (s : Tree Token) × Derives codeOf expression (reading e .tokens) s × Told v n (fold (meaning e t) s)
+  FromTree v n = (s : Tree Token) × Derives codeOf expression (reading e .tokens) s × GivenBy v n (fold (meaning e t) s)
 
-  -- by what the parser found
+  -- by the result of the parser
   by-outcome : (o : Outcome Attributes) → parse codeOf (meaning e t) (tokenIn (reading e .tokens)) (length (reading e .tokens)) ≡ o
       → (v : Value) (n : ℕ) → answerTokens (codesOf (reading e .tokens)) o ≡ value v n → FromTree v n
   by-outcome (underived i) p v n h = absurd (never v n _ h)
@@ -69,7 +70,7 @@ module _ (e t : List ℕ) where
       let r = evaluates tokens-read (meaning e t) .accepted-exactly a .0 p in
       let s : Tree Token = r .0 in
       let k : checkThenAnswer (barOutside 0 (codesOf (reading e .tokens))) (fold (meaning e t) s) ≡ value v n = rw (← r .2) h in
-      (s, r .1, judged-tells v n (barOutside 0 (codesOf (reading e .tokens))) (fold (meaning e t) s) k)
+      (s, r .1, check-then-answer-given v n (barOutside 0 (codesOf (reading e .tokens))) (fold (meaning e t) s) k)
 
   pub from-tree : (v : Value) (n : ℕ) → evaluation e t ≡ value v n → FromTree v n
   unfolding evaluation ofTokens

@@ -1,6 +1,6 @@
--- The answer to an expression (document 01, "Kinds and values" and "Refusal numbers"): its value and how many operators were applied,
--- or a refusal. The order of refusals: 1; 2; 3, 4 and 5 as reading meets them; 6; 7; 8; 9; 10; and last what evaluation itself meets, 11
--- or 12. The definition computes, so it goes through the parser; answers/specs/Answers.antt says what it amounts to in terms of derivations alone.
+-- The answer to an expression (document 01, "Kinds and values" and "Refusal numbers"): its value and the number of operators that were
+-- applied, or a refusal. The order of refusals: 1; 2; 3, 4 and 5 as reading meets them; 6; 7; 8; 9; 10; and last those of evaluation
+-- itself, 11 and 12. The definition computes, so it calls the parser; the page of theorems states the answer in terms of derivations alone.
 use Prim.Native.Nat.{ℕ}
 use mathlib.Core.Path.{_≡_}
 use mathlib.Core.Bool.{Bool}
@@ -39,7 +39,7 @@ pub data Evaluation : Type 0 where
 abbrev pub refusedWith : ℕ → Evaluation
 refusedWith n = refused (refusal n)
 
--- the value, or the refusal that evaluation met first: where kinds suit that is 11 or 12
+-- the value, or the refusal that evaluation met first: 11 or 12 if the kinds do not clash
 abbrev pub answerValue : Value → (count : ℕ) → Evaluation
 answerValue (number x) n = value (number x) n
 answerValue (string p s) n = value (string p s) n
@@ -49,7 +49,8 @@ answerValue (fault r) n = refusedWith r
 abbrev pub clashes : Kind → Bool
 clashes k = eqb (kindNumber k) (kindNumber Clash)
 
--- what is known of an expression that derives, and whether a bar stands outside parentheses: 8, 9, 10, else what evaluation gave
+-- the answer to an expression that derives, from its attributes and whether it has a bar outside parentheses: 8, 9, 10, else the value or
+-- 11, 12
 abbrev pub checkThenAnswer : (bar : Bool) → Attributes → Evaluation
 checkThenAnswer bar a =
     pick bar (refusedWith BAR-OUTSIDE)
@@ -64,7 +65,7 @@ END-TOKEN = record { code = END; start = 0; len = 0; value = 0 }
 abbrev pub tokenIn : List Token → ℕ → Token
 tokenIn ts i = getD ts i END-TOKEN
 
--- 7 where the tokens have no derivation, else what their tree folds to is judged
+-- 7 if the tokens have no derivation, else the answer from the attributes of their tree
 abbrev pub answerTokens : (codes : List ℕ) → Outcome Attributes → Evaluation
 answerTokens cs (underived i) = refusedWith NO-DERIVATION
 answerTokens cs (accepted a) = checkThenAnswer (barOutside 0 cs) a
@@ -84,7 +85,7 @@ evaluation e t =
     let given = ofTokens e t (reading e .tokens) in
     pick (wellFormed t) (ended (reading e .ending) given) (refusedWith TABLE-MALFORMED)
 
--- what the code's answer says: with a string's place go the bytes that stand there
+-- what the answer of the code denotes: a string at a place denotes the place with its bytes
 abbrev pub denoteAnswerValue : (e t : List ℕ) → AnswerValue → Value
 denoteAnswerValue e t (Number x) = number x
 denoteAnswerValue e t (String p) = string p (bytesAt e t p)
@@ -94,8 +95,8 @@ abbrev pub denoteAnswer : (e t : List ℕ) → Answer → Evaluation
 denoteAnswer e t (Given v n) = value (denoteAnswerValue e t v) n
 denoteAnswer e t (Refusing r) = refused r
 
--- What document 01 says of each case. A refusal has its number and its line, no value and a count of 0; a value has no refusal number,
--- which 0 stands for, and no line. Kinds are numbered as the table numbers them.
+-- The parts of an answer (document 01). A refusal has its number and its line, no value and a count of 0; a value has 0 for the refusal
+-- number and for the line. Kinds have their numbers in the table of settings.
 abbrev pub refusalNumber : Evaluation → ℕ
 refusalNumber (value v n) = 0
 refusalNumber (refused r) = r .number
@@ -112,7 +113,7 @@ abbrev pub kindNumberOf : Evaluation → ℕ
 kindNumberOf (value v n) = kindNumber (kindOf v)
 kindNumberOf (refused r) = 0
 
--- the number, 0 of a string
+-- the number, 0 for a string
 abbrev pub numberOf : Evaluation → ℕ
 numberOf (value (number x) n) = x
 numberOf (value (string p s) n) = 0
@@ -120,7 +121,7 @@ numberOf (value (wide p s) n) = 0
 numberOf (value (fault r) n) = 0
 numberOf (refused r) = 0
 
--- where a string stands; an empty part of a number and of a refusal
+-- the place of a string; an empty place for a number and for a refusal
 abbrev pub placeOf : Evaluation → Place
 placeOf (value (number x) n) = inExpression 0 0
 placeOf (value (string p s) n) = p
@@ -128,7 +129,7 @@ placeOf (value (wide p s) n) = p
 placeOf (value (fault r) n) = inExpression 0 0
 placeOf (refused r) = inExpression 0 0
 
--- a string's bytes, none of a number and of a refusal
+-- the bytes of a string, none for a number and for a refusal
 abbrev pub textOf : Evaluation → List ℕ
 textOf (value (number x) n) = []
 textOf (value (string p s) n) = s
@@ -136,7 +137,7 @@ textOf (value (wide p s) n) = s
 textOf (value (fault r) n) = []
 textOf (refused r) = []
 
--- what is handed back of an answer: the part of the caller's memory at its place, with the string's bytes
+-- the string of an answer is handed back: the part of the caller's memory at its place, with the bytes of the string
 pub record HandsBack (e t : RefT (List ℕ)) (a : Answer) (r : RefT (List ℕ)) : Type 0 where
   pub part : PartAt e t (placeOf (denoteAnswer (now e) (now t) a)) r
   pub bytes : now r ≡ textOf (denoteAnswer (now e) (now t) a)

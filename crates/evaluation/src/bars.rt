@@ -13,14 +13,14 @@ fn is_bar(c: u8) -> bool
     c == codes::BIT_OR || c == codes::OR_BARS
 }
 
-// Whether this token is a bar where no parenthesis is open.
+// Whether this token is a bar and no parenthesis is open.
 fn is_outside(depth: usize, c: u8) -> bool
     ensures { λ r. ⌜ r ≡ (isBar c && eqb depth 0) ⌝ }
 {
     is_bar(c) && depth == 0
 }
 
-// How many parentheses are open after a token.
+// The number of open parentheses after a token.
 fn deeper(depth: usize, c: u8) -> usize
     requires { ⌜ depth < 200 ⌝ }
     ensures { λ r. ⌜ r ≡ deeperOf depth c ⌝ }
@@ -34,7 +34,7 @@ fn deeper(depth: usize, c: u8) -> usize
     if depth == 0 { 0 } else { depth - 1 }
 }
 
-// Whether some bar of the first n tokens stands outside all parentheses.
+// Whether one of the first n tokens is a bar outside all parentheses.
 pub fn outside(codes: &[u8; 200], count: TokenNumber) -> bool
     requires { ⌜ (count .0 ≤ 200) × (count .0 ≤ length (now codes)) ⌝ }
     ensures { λ r. ⌜ r ≡ barOutside 0 (take (count .0) (now (codes .entry))) ⌝ }

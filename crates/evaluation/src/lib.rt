@@ -1,11 +1,11 @@
-// The answer to an expression: its value and how many operators were applied, or a refusal.
+// The answer to an expression: its value and the number of operators that were applied, or a refusal.
 mod bars;
 pub mod outcome;
 
 use units::Refusal;
 use value::Place;
 
-// A value by its kind. A string is the part of the expression or of the table where it stands.
+// A value by its kind. A string is a part of the expression or of the table.
 pub enum AnswerValue {
     Number(u64),
     String(Place),

@@ -33,7 +33,7 @@ fn refused(number: u8) -> Answer
     Answer::Refused(units::refuse(number))
 }
 
-// A value that evaluation ended with, or the refusal that it met.
+// The value, or the refusal that evaluation met.
 fn answer_value(value: Value, count: usize) -> Answer
     ensures { λ r. ⌜ ((e t : List ℕ) → denoteAnswer e t r ≡ answerValue (denoteValue e t value) count) ⌝ }
 {
@@ -56,7 +56,7 @@ fn clashes(k: Kind) -> bool
     }
 }
 
-// What is answered where the tokens derive.
+// The answer if the tokens derive a tree.
 fn check_then_answer(bar: bool, a: Attributes) -> Answer
     ensures { λ r. ⌜ ((e t : List ℕ) → denoteAnswer e t r ≡ checkThenAnswer bar (denoteAttributes e t a)) ⌝ }
 {
@@ -98,7 +98,7 @@ fn answer_tokens<'a>(
     }
 }
 
-// The answer over a table that is known to be well formed, with room for the tokens in slices that are lent.
+// The answer over a well-formed table, with lent slices for the tokens.
 fn evaluate_with_room<'a>(
     codes: &mut [u8; 200],
     starts: &mut [u16],
@@ -119,10 +119,10 @@ fn evaluate_with_room<'a>(
     }
 }
 
-// An expression has no more tokens than bytes: for one of at most this many, less memory is cleared.
+// An expression has no more tokens than bytes, so less memory is cleared for one of at most this many bytes.
 const SHORT: usize = 32;
 
-// The answer over a table that is known to be well formed.
+// The answer over a well-formed table.
 pub fn evaluate_in<'a>(expr: &'a [u8], table: &'a [u8]) -> Answer
     requires { ⌜ wellFormed (now table) ≡ true ⌝ }
     ensures { λ r. ⌜ denoteAnswer (now (expr .entry)) (now (table .entry)) r ≡ evaluation (now (expr .entry)) (now (table .entry)) ⌝ }

@@ -1,4 +1,4 @@
--- One entry of an order more: what it finds on the stack, and that the entries after it leave what they have to.
+-- One more entry of an order: the operands that it finds on the stack, and what the entries after it leave.
 use Prim.Native.Nat.{ℕ, zero, suc, _+_, _-_, _≤_, _<_}
 use native.Mathlib.Numerals.{add-one}
 use native.Mathlib.Omega.{arith}
@@ -16,7 +16,7 @@ use Rattle.operands.proofs.Piles.{pile-length, latest}
 use Rattle.syntax.specs.Order.{UNARY, FILLER}
 use Rattle.expression.specs.Postfix.{Input, codeIn, primaryIn, Entry, operand, unary, binary, choice, filler, entryOf, OnOne, OnTwo, OnThree, Does, Gives}
 
--- what an entry stands for, from what is tested
+-- the sort of an entry, from the tests
 module _ (i : Input) (x : ℕ) where
   pub is-unary : UNARY ≤ x → entryOf i x ≡ unary
   is-unary h = rw (le-leb UNARY x h)
@@ -39,7 +39,7 @@ drop-taken zero o = refl
 drop-taken (suc m) [] = refl
 drop-taken (suc m) (x ∷ o) = drop-taken m o
 
--- the operands that an operator finds, as the stack w has them
+-- the operands of an operator on top of the stack w
 module _ (e t : List ℕ) (w : List (List ℕ)) (top : ℕ) (go : List Attributes → Type 0) where
   one : {o : ℕ} (g : OnOne o (piled e t w top) go) → (0 < top) × (g .a ≡ operandAt e t w (top - 1)) × (g .rest ≡ piled e t w (top - 1))
   one g = latest e t w top (g .a) (g .rest) (g .shape)
@@ -69,7 +69,7 @@ module _ (e t : List ℕ) (w : List (List ℕ)) (top : ℕ) (go : List Attribute
 placed : {e t : List ℕ} {w w′ : List (List ℕ)} {a : Attributes} {j : ℕ} (h : ℕ) → j + 1 ≡ h → Leaves e t w j a w′ → piled e t w′ h ≡ a ∷ piled e t w j
 placed h f l = rw f at (l .top)
 
--- an order that is worked out: over what, with room for how many operands, and how many entries it has
+-- the evaluation of an order: its input, the room for operands, and the number of its entries
 pub record Work : Type 0 where
   pub i : Input
   pub most : ℕ
@@ -86,16 +86,16 @@ pile k w top = piled (k .i .e) (k .i .t) w top
 abbrev pub at : Work → List (List ℕ) → ℕ → Attributes
 at k w j = operandAt (k .i .e) (k .i .t) w j
 
--- with `top` operands on the stack w, the entries from p on leave whatever all of them leave
+-- with `top` operands on the stack w, the entries from p on leave what all entries leave
 pub record Rest (k : Work) (w : List (List ℕ)) (top p : ℕ) : Type 0 where
   pub leaves : (v : Attributes) → Gives (k .i) (k .most) [] (entries k) v → Gives (k .i) (k .most) (pile k w top) (drop p (entries k)) v
 
--- before the first entry nothing waits
+-- before the first entry the stack is empty
 pub begun : (k : Work) (w : List (List ℕ)) → Rest k w 0 0
 unfolding piled
 begun k w = record { leaves = λ v g. g }
 
--- the same, where entry p is x and stands for this
+-- the same, if entry p is x and of this sort
 pub record Next (k : Work) (y : Entry) (x : ℕ) (w : List (List ℕ)) (top p : ℕ) : Type 0 where
   pub does : (v : Attributes) → Gives (k .i) (k .most) [] (entries k) v
       → Does (k .i) (k .most) y x (pile k w top) (λ u. Gives (k .i) (k .most) u (drop (p + 1) (entries k)) v)
@@ -112,11 +112,11 @@ module _ {k : Work} {w : List (List ℕ)} {top p : ℕ} where
       let n : p < length (entries k) = rw (length-take-le (k .filled) (k .order) l) h in
       record { does = λ v g. rw (add-one p) (rw (drop-cons (entries k) p 0 n, getD-take (k .filled) (k .order) p 0 h, ← q, f) at (r .leaves v g)) }
 
-  -- no entry is left
+  -- after the last entry
   pub closed : p ≡ k .filled → Rest k w top p → (v : Attributes) → Gives (k .i) (k .most) [] (entries k) v → pile k w top ≡ v ∷ []
   closed q r v g = rw (q, drop-taken (k .filled) (k .order)) at (r .leaves v g)
 
-  -- what an entry finds, where all entries leave something
+  -- the operands that an entry finds, if all entries leave something
   module _ {x : ℕ} where
     pub operand-room : Next k operand x w top p → (v : Attributes) → Gives (k .i) (k .most) [] (entries k) v → top < k .most
     operand-room r v g = omega (arith, r .does v g .0, pile-length (k .i .e) (k .i .t) w top)
@@ -141,7 +141,7 @@ module _ {k : Work} {w : List (List ℕ)} {top p : ℕ} where
         let f = three (k .i .e) (k .i .t) w top _ h in
         (f .0, omega (arith, h .few, ap (λ a. a .count) (f .1), ap (λ a. a .count) (f .2), ap (λ a. a .count) (f .3)))
 
-  -- what is left to do after an entry
+  -- the remaining entries after an entry
   pub filler-on : {x : ℕ} → Next k filler x w top p → Rest k w top (p + 1)
   filler-on r = record { leaves = r .does }
 

@@ -1,5 +1,5 @@
--- An order comes to what the grammar's parser makes of the same tokens: the parser takes the same steps over tokens and over their numbers,
--- and what it makes of the numbers is the order of what it makes of the tokens. Assumes nothing.
+-- An order evaluates to the result of the grammar's parser on the same tokens: the parser takes the same steps over tokens and over their
+-- numbers, and its result over the numbers is the order of its result over the tokens. Assumes nothing.
 use Prim.Native.Nat.{ℕ, zero, suc, _+_, _-_, _≤_, _<_}
 use native.Mathlib.Omega.{arith}
 use mathlib.Core.Path.{_≡_, refl, ap}
@@ -49,7 +49,7 @@ end-not-primary c e = ap isPrimary e
 abbrev tokenIn : Input → ℕ → Token
 tokenIn i x = tokenAt (i .codes) (i .starts) (i .lens) (i .values) (i .n) x
 
--- one step, and as many as the fuel lasts, over the numbers of the tokens and over the tokens
+-- one step, and a run with fuel, over the numbers of the tokens and over the tokens
 abbrev orderStep : Input → (Goal (List ℕ) → Result (List ℕ)) → Goal (List ℕ) → Result (List ℕ)
 orderStep i rec g = step (codeIn i) postfix (λ j. j) rec g
 
@@ -153,7 +153,7 @@ module _ (i : Input) (most : ℕ) (few : i .n ≤ 200) where
             })))));
       }
 
-  -- results of the two parsers that belong together
+  -- corresponding results of the two parsers
   data Alike : Result (List ℕ) → Result Attributes → Type 0 where
     bads : {x : ℕ} → Alike (bad x) (bad x)
     gots : {l : List ℕ} {a : Attributes} {j : ℕ} → Makes l a → Alike (got l j) (got a j)
@@ -206,7 +206,7 @@ module _ (i : Input) (most : ℕ) (few : i .n ≤ 200) where
   agree zero = record { finds = λ x j h. bads; extends = λ k l a j h m. bads }
   agree (suc fuel) = record { finds = found fuel (agree fuel); extends = extended fuel (agree fuel) }
 
-  -- where the descent met a fault, so does the parser
+  -- if the descent meets a fault, so does the parser
   pub faulted : (z : ℕ) → Ordered (i .codes) (i .n) (find expression 0) (bad z)
       → Yields codeOf (meaning (i .e) (i .t)) (tokenIn i) (i .n) (find expression 0) (bad z)
   faulted z u = record { with-fuel = λ fuel h. same (agree fuel .finds expression 0 tt) (u .with-fuel fuel h) }
@@ -215,7 +215,7 @@ module _ (i : Input) (most : ℕ) (few : i .n ≤ 200) where
       same bads q = cc
       same (gots m) q = let w : _≡_ {A = ℕ} 0 1 = cc in absurd (omega arith)
 
-  -- an order leaves something, and that is what the parser makes
+  -- an order leaves the result of the parser
   module _ (l : List ℕ) (j : ℕ) (all : length l ≤ 200) (room : length l ≤ most + most) where
     gives : (a : Attributes) → Makes l a → Gives i most [] l a
     gives a m = rw (append-nil l) at (m .runs [] [] a (omega (arith, m .half)) all refl)

@@ -1,4 +1,4 @@
--- The expression that the scanner's arrays derive, as contracts between layers have it. No promise about an expression cites this.
+-- The expression that the tokens in the scanner's arrays derive. Contracts between layers cite this; no promise about an expression does.
 use Prim.Native.Nat.{ℕ, _≤_}
 use mathlib.Core.Path.{_≡_}
 use mathlib.Core.Bool.{true}
@@ -29,7 +29,7 @@ abbrev pub found : (e t : List ℕ) → Parsed → Result Attributes
 found e t (Bad i) = bad (i .0)
 found e t (Got a j) = got (denoteAttributes e t a) (j .0)
 
--- what has to be answered: what the grammar's parser makes of the tokens from the first one on
+-- the answer is what the grammar's parser finds from the first token on
 abbrev pub Parses : (e t cs ss ls vs : List ℕ) (n : ℕ) → Parsed → Type 0
 Parses e t cs ss ls vs n r = Yields codeOf (meaning e t) (tokenAt cs ss ls vs n) n (find expression 0) (found e t r)
 
@@ -41,7 +41,7 @@ pub record Holding (cs ss ls vs : List ℕ) (n : ℕ) : Type 0 where
   pub lens : n ≤ length ls
   pub values : n ≤ length vs
 
--- what may be assumed: the table is well formed, and the arrays have n tokens
+-- the precondition: the table is well formed, and the arrays have n tokens
 pub record Ready (t cs ss ls vs : List ℕ) (n : ℕ) : Type 0 where
   pub sound : wellFormed t ≡ true
   pub holding : Holding cs ss ls vs n

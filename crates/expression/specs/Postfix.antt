@@ -1,4 +1,4 @@
--- The entries of a postfix order, one after the other, over the operands that wait for their operator. No promise cites this.
+-- The evaluation of a postfix order, entry by entry, with a stack of the operands that wait for their operator. No promise cites this.
 use Prim.Native.Nat.{ℕ, _+_, _-_, _≤_, _<_}
 use mathlib.Core.Path.{_≡_}
 use mathlib.Core.List.{List, [], _∷_}
@@ -13,7 +13,7 @@ use Rattle.value.specs.Denote.{denoteAttributes}
 use Rattle.syntax.specs.Order.{codeAt, UNARY, FILLER}
 use Rattle.expression.specs.Parsing.{tokenAt, Ready}
 
--- what an order is worked out over: expression and table, and the first n tokens of the arrays
+-- what an order is evaluated over: expression and table, and the first n tokens of the arrays
 pub record Input : Type 0 where
   pub e : List ℕ
   pub t : List ℕ
@@ -26,11 +26,11 @@ pub record Input : Type 0 where
 abbrev pub codeIn : Input → ℕ → ℕ
 codeIn i x = codeAt (i .codes) (i .n) x
 
--- what is known of the operand at a token
+-- the attributes of the operand at a token
 abbrev pub primaryIn : Input → ℕ → Attributes
 primaryIn i x = primaryOf (i .e) (i .t) (tokenAt (i .codes) (i .starts) (i .lens) (i .values) (i .n) x)
 
--- what an entry stands for
+-- the sorts of entries
 pub data Entry : Type 0 where
   operand : Entry
   unary : Entry
@@ -45,7 +45,7 @@ entryOf i x =
     (pick (eqb x FILLER) filler
     (pick (eqb (codeIn i x) QUESTION) choice binary)))
 
--- the operands that an operator finds, the latest first, and what goes on with its result in their place
+-- the operands of an operator on top of the stack, and a statement `go` on the stack with its result in their place
 pub record OnOne (o : ℕ) (s : List Attributes) (go : List Attributes → Type 0) : Type 0 where
   pub a : Attributes
   pub rest : List Attributes
@@ -72,7 +72,7 @@ pub record OnThree (s : List Attributes) (go : List Attributes → Type 0) : Typ
 
 -- with room for `most` operands
 module _ (i : Input) (most : ℕ) where
-  -- what is done for an entry x, with the operands s waiting
+  -- the step of an entry x from the stack s
   abbrev pub Does : Entry → (x : ℕ) (s : List Attributes) → (List Attributes → Type 0) → Type 0
   Does operand x s go = (length s < most) × go (primaryIn i x ∷ s)
   Does unary x s go = OnOne (codeIn i (x - UNARY)) s go
@@ -80,12 +80,12 @@ module _ (i : Input) (most : ℕ) where
   Does choice x s go = OnThree s go
   Does filler x s go = go s
 
-  -- with the operands s waiting, the entries leave v alone
+  -- from the stack s the entries leave v alone
   abbrev pub Gives : List Attributes → List ℕ → Attributes → Type 0
   Gives s [] v = s ≡ v ∷ []
   Gives s (x ∷ k) v = Does (entryOf i x) x s (λ u. Gives u k v)
 
-  -- what may be assumed of the first m entries of an order
+  -- the precondition on the first m entries of an order
   pub record Foldable (o : List ℕ) (m : ℕ) : Type 0 where
     pub ready : Ready (i .t) (i .codes) (i .starts) (i .lens) (i .values) (i .n)
     pub all : m ≤ 200
@@ -93,6 +93,6 @@ module _ (i : Input) (most : ℕ) where
     pub value : Attributes
     pub gives : Gives [] (take m o) value
 
-  -- what has to be answered: what they leave
+  -- the answer is what they leave
   abbrev pub Folds : (o : List ℕ) (m : ℕ) → CodedAttributes → Type 0
   Folds o m z = (v : Attributes) → Gives [] (take m o) v → denoteAttributes (i .e) (i .t) z ≡ v

@@ -1,4 +1,4 @@
-// A token in the scanner's arrays.
+// A token in the arrays of the scanner.
 use units::TokenNumber;
 use value::forms::Token;
 ghost use mathlib.Core.Path.{_≡_};

@@ -1,4 +1,4 @@
-// Works a postfix order out.
+// The evaluation of a postfix order.
 use crate::arrays;
 use operands::stack;
 use syntax::tokens;
@@ -16,7 +16,7 @@ fn entry_number(x: u16) -> usize
     x as usize
 }
 
-// What the entries of an order leave, with the operands that wait for their operator in memory that is lent.
+// The attributes that the entries of an order leave. The operands that wait for their operator are in lent memory.
 pub fn fold<'a>(
     waiting: &mut [[usize; 7]],
     expr: &'a [u8],

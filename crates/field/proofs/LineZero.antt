@@ -1,4 +1,4 @@
--- The promise `WithoutLine`: no refusal of a field by itself has a line of its own. Assumes nothing.
+-- The answer of a data field has line 0, also if it is a refusal. Assumes nothing.
 use Prim.Native.Nat.{ℕ}
 use mathlib.Core.Path.{_≡_, refl}
 use mathlib.Core.List.{List}
@@ -8,7 +8,7 @@ use Rattle.text.proofs.Laws.{pick-case}
 use Rattle.evaluation.specs.Evaluation.{Evaluation, value, refused, lineOf as lineOfEvaluation, evaluation}
 use Rattle.answers.proofs.LineZero.{without-line as expression-without-line}
 use Rattle.datum.specs.Encoding.{Encoding, unfit, bytes, Field, fitted}
-use Rattle.field.specs.Fields.{encoding, written, fieldOf, lineOf, WithoutLine}
+use Rattle.field.specs.Fields.{encoding, written, fieldOf, lineOf}
 
 abbrev LineZero : Field → Type 0
 LineZero f = lineOf (f .answer) ≡ 0
@@ -22,6 +22,6 @@ written-so : (x : Evaluation) → lineOfEvaluation x ≡ 0 → (d : ℕ) (b : Li
 written-so (refused r) h d b = h
 written-so (value v n) h d b = fitted-so (encoding d v) b
 
-pub without-line : WithoutLine
+pub without-line : (e t : List ℕ) (datum : ℕ) (buffer : List ℕ) → lineOf (fieldOf e t datum buffer .answer) ≡ 0
 unfolding fieldOf
 without-line e t d b = written-so (evaluation e t) (expression-without-line e t) d b

@@ -1,7 +1,6 @@
--- The data field that an expression's value makes (document 01, "Field bytes"). The expression's own refusals come before those of the
--- datum and the buffer. The answer is a length; the count of operators is no part of it.
+-- The data field of the value of an expression (document 01, "Field bytes"). The refusals of the expression come before those of the datum
+-- and the buffer. The answer is a length; the count of operators is no part of it.
 use Prim.Native.Nat.{ℕ}
-use mathlib.Core.Path.{_≡_}
 use mathlib.Core.List.{List}
 use Rattle.value.specs.Values.{Value, number, string, wide, fault}
 use Rattle.evaluation.specs.Evaluation.{Evaluation, value, refused, evaluation}
@@ -9,14 +8,14 @@ use Rattle.datum.specs.Encoding.{Encoding, unfit, terminated, widened, numberFi
 use Rattle.datum.specs.declared.Written.{Written}
 use Rattle.datum.specs.declared.Written.the-variants.{Length, Refused}
 
--- a value's bytes for a datum, by its kind (an answer never has a fault for its value)
+-- the bytes of a value in a datum, by its kind (the value of an answer is never a fault)
 abbrev pub encoding : (datum : ℕ) → Value → Encoding
 encoding d (number x) = numberField d x
 encoding d (string p s) = stringField d (terminated s)
 encoding d (wide p s) = stringField d (widened s)
 encoding d (fault r) = unfit r
 
--- the expression's refusal, which leaves the buffer, or its value's bytes at the buffer's front
+-- the refusal of the expression, which leaves the buffer as it was, or the bytes of its value at the front of the buffer
 abbrev pub written : Evaluation → (datum : ℕ) → (buffer : List ℕ) → Field
 written (refused r) d b = record { answer = Refused r; buffer = b }
 written (value v n) d b = fitted (encoding d v) b
@@ -25,11 +24,7 @@ written (value v n) d b = fitted (encoding d v) b
 unfoldable pub fieldOf : (e t : List ℕ) → (datum : ℕ) → (buffer : List ℕ) → Field
 fieldOf e t d b = written (evaluation e t) d b
 
--- the line of an answer, 0 where there is no refusal
+-- the line of an answer, 0 if there is no refusal
 abbrev pub lineOf : Written → ℕ
 lineOf (Length n) = 0
 lineOf (Refused r) = r .line .0
-
--- a refusal of a field by itself has line 0 (document 01, "Refusal numbers"); proofs/LineZero.antt has the proof
-abbrev pub WithoutLine : Type 0
-WithoutLine = (e t : List ℕ) (datum : ℕ) (buffer : List ℕ) → lineOf (fieldOf e t datum buffer .answer) ≡ 0

@@ -1,4 +1,4 @@
-// One PCD data field: an expression's value in the bytes of its datum.
+// One PCD data field: the value of an expression in the bytes of its datum.
 use datum::Written;
 use evaluation::Answer;
 use evaluation::AnswerValue;
@@ -6,7 +6,7 @@ use evaluation::outcome;
 ghost use Rattle.datum.specs.Encoding.{Writes};
 ghost use Rattle.field.specs.Fields.{fieldOf};
 
-// Writes the field to the front of the buffer and gives its length; a refusal writes nothing. `code` is the datum's.
+// Writes the field to the front of the buffer and returns its length; a refusal writes nothing. `code` is the code of the datum.
 pub fn field<'a>(buffer: &mut [u8], expr: &'a [u8], table: &'a [u8], code: u8) -> Written
     ensures { λ r. ⌜ Writes (fieldOf (now (expr .entry)) (now (table .entry)) code (now (buffer .entry))) r (now (buffer .exit)) ⌝ }
 {

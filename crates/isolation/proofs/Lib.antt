@@ -1,3 +1,3 @@
 pub mod SameConditions
 pub mod Simulation
-pub mod Isolated
+pub mod SelectionIsolated

@@ -1,5 +1,5 @@
--- Two runs that hear the same go the same way: they pass through the same states, since the text of a line reaches a step only where its
--- directive is read, and a directive that is read has a mark of 3 or more. Assumes nothing.
+-- Two runs with the same conditions pass through the same states: the text of a line has an effect only if its directive is read, and a
+-- directive that is read has a mark of 3 or more. Assumes nothing.
 use Prim.Native.Nat.{ℕ, suc, _+_, _≤_, _<_}
 use native.Mathlib.Omega.{arith}
 use mathlib.Core.Path.{_≡_, refl, sym, _∙_}
@@ -22,11 +22,11 @@ use Rattle.select.specs.Step.{readCondition, step}
 use Rattle.select.proofs.Steps.{decided-step}
 use Rattle.select.specs.Select.{Result, accepted, refused, prepend, after, run}
 
--- how line l₂ of a second run is like line l₁ of the first, which gives it the mark m
+-- line l₂ of a second run is like line l₁ of the first, which has the mark m there
 pub record Like (t₁ t₂ : List ℕ) (m : ℕ) (l₁ l₂ : List ℕ) : Type 0 where
   pub short : length l₂ ≤ 1024
   pub word : directiveOf l₂ ≡ directiveOf l₁
-  pub said : 3 ≤ m → evaluate t₂ (directiveOf l₁) (textOf l₂) ≡ evaluate t₁ (directiveOf l₁) (textOf l₁)
+  pub condition : 3 ≤ m → evaluate t₂ (directiveOf l₁) (textOf l₂) ≡ evaluate t₁ (directiveOf l₁) (textOf l₁)
 
 never-stops : (A : Type 0) (r m : ℕ) (s : State) → stop r ≡ go m s → A
 never-stops A r m s e = let z : _≡_ {A = ℕ} 0 1 = cc in absurd (omega arith)
@@ -51,14 +51,14 @@ module _ (t₁ t₂ : List ℕ) (n : ℕ) (s : State) (l₁ l₂ : List ℕ) (m 
       (s .count + countOf (readCondition t₁ (s .groups) l₁)) (s .groups) h in
       rw (sym d ∙ e) at q
 
-  -- what is heard of both lines
+  -- the conditions of both lines
   same-read-condition : step t₁ n s l₁ ≡ go m s′ → readCondition t₂ (s .groups) l₂ ≡ readCondition t₁ (s .groups) l₁
   unfolding readCondition
   same-read-condition e = rw (like .word) (by (reads (directiveOf l₁) (stateOf (s .groups))) refl)
     where
       by : (b : Bool) → reads (directiveOf l₁) (stateOf (s .groups)) ≡ b
           → pick b (evaluate t₂ (directiveOf l₁) (textOf l₂)) (Fails 0) ≡ pick b (evaluate t₁ (directiveOf l₁) (textOf l₁)) (Fails 0)
-      by true q = like .said (read-mark e q)
+      by true q = like .condition (read-mark e q)
       by false q = refl
 
   same-step : step t₁ n s l₁ ≡ go m s′ → step t₂ n s l₂ ≡ go m s′
@@ -70,7 +70,7 @@ module _ (t₁ t₂ : List ℕ) (n : ℕ) (s : State) (l₁ l₂ : List ℕ) (m 
 abbrev pub AllLike : (t₁ t₂ : List ℕ) → (ms : List ℕ) → (ls₁ ls₂ : List (List ℕ)) → Type 0
 AllLike t₁ t₂ ms ls₁ ls₂ = (i : ℕ) → i < length ls₁ → Like t₁ t₂ (getD ms i 0) (getD ls₁ i []) (getD ls₂ i [])
 
--- a first line and the lines after it, where those go the same way from any state
+-- a first line and the lines after it, if these have the same result from any state
 module _ (t₁ t₂ : List ℕ) (n : ℕ) (s : State) (l₁ l₂ : List ℕ) (ls₁ ls₂ : List (List ℕ)) (ms : List ℕ) (c : ℕ) (a : AllLike t₁ t₂ ms (l₁ ∷ ls₁) (l₂ ∷ ls₂))
     (rest : (s′ : State) (ms′ : List ℕ) (c′ : ℕ) → AllLike t₁ t₂ ms′ ls₁ ls₂ → run t₁ (n + 1) s′ ls₁ ≡ accepted ms′ c′ → run t₂ (n + 1) s′
     ls₂ ≡ accepted ms′ c′) where

@@ -1,33 +1,61 @@
--- Isolation (document 00, demand 3; document 01, "For demand 3"): an accepted run depends on the directives that it reads, on the records
--- under the names that these name, and on which words stand in which lines; on nothing else in the file or the table.
--- proofs/Isolated.antt has the proof.
+-- Isolation (document 00, demand 3; document 01, "For demand 3"): an accepted selection depends on the directives that it reads, on the
+-- records under the names in these, and on the words of the lines; on nothing else in the file or the table. Here is when a second file and
+-- table are comparable; proofs/SelectionIsolated.antt shows that they give the same selection.
 use Prim.Native.Nat.{ℕ, _≤_, _<_}
 use mathlib.Core.Path.{_≡_}
 use mathlib.Core.Bool.{true}
 use mathlib.Core.List.{List, []}
-use lib.ListN.{length, getD, take}
+use lib.ListN.{length, getD, take, drop}
+use Rattle.text.specs.Runs.{span}
+use Rattle.text.specs.declared.runs.Set.the-variants.{Blanks}
 use Rattle.settings.specs.Table.{wellFormed}
+use Rattle.lookup.specs.Setting.{recordUnder}
+use Rattle.answers.specs.Names.{Names}
 use Rattle.line.specs.Lines.{lines}
 use Rattle.line.specs.Directives.{directiveOf, textOf}
-use Rattle.isolation.specs.Naming.{SameRecords}
-use Rattle.select.specs.Select.{MAX-FILE, accepted, selection, Selects}
-use Rattle.select.specs.declared.Answer.{Answer}
-use Rattle.select.specs.declared.Answer.the-variants.{Accepted}
+use Rattle.line.specs.declared.Directive.{Directive}
+use Rattle.line.specs.declared.Directive.the-variants.{Plain, If, Ifdef, Ifndef, Elseif, Else, Endif, Unknown}
+use Rattle.condition.specs.Conditions.{nameAt}
+use Rattle.condition.specs.declared.macros.Named.{Named}
+use Rattle.select.specs.Select.{MAX-FILE}
 
--- A directive that is read has mark 3, 4 or 5, and any other line a mark below. Which directives are read is said by the structure of the
--- file in blocks/specs/Reading.antt; that the marks show just these is `MarksTellReading` in blocks/specs/Decides.antt.
+-- the macro's name in a text that begins with blanks
+abbrev pub macroIn : List ℕ → List ℕ
+macroIn s =
+    let m : List ℕ = drop (span Blanks s) s in
+    let n : Named = nameAt m in
+    take (n .len) (drop (n .start .0) m)
+
+-- A directive that is read, with the text s, names n: a condition names all its macros and PCDs, those of skipped operands too; an `!ifdef`
+-- or `!ifndef` names its one macro.
+abbrev pub Mentions : Directive → (s n : List ℕ) → Type 0
+Mentions If s n = Names s n
+Mentions Elseif s n = Names s n
+Mentions Ifdef s n = n ≡ macroIn s
+Mentions Ifndef s n = n ≡ macroIn s
+Mentions Else s n = ⊥
+Mentions Endif s n = ⊥
+Mentions Plain s n = ⊥
+Mentions Unknown s n = ⊥
+
+-- the tables have the same record under each name that the directive names, byte for byte, or both have none
+abbrev pub SameRecords : (t₁ t₂ : List ℕ) → Directive → List ℕ → Type 0
+SameRecords t₁ t₂ d s = (n : List ℕ) → Mentions d s n → recordUnder t₁ n ≡ recordUnder t₂ n
+
+-- A directive that is read has mark 3, 4 or 5, and any other line a lower one. blocks/specs/Reading.antt defines which directives are read,
+-- by the structure of the file; `marks-show-reading` of the page of theorems is that the marks show exactly these.
 abbrev pub Read : (mark : ℕ) → Type 0
 Read m = 3 ≤ m
 
--- How a line l₂ of the second file agrees with the line l₁ of the same number, which the first run gave the mark m. Both are plain, or both
--- have the same word, `elif` and `elseif` being one; a directive that was read is the same in both, and the tables agree on the records
--- under the names that it names.
+-- Line l₂ of the second file agrees with line l₁ of the same number, which has the mark m in the first selection. Both are plain, or both
+-- have the same word, where `elif` and `elseif` are one. If the directive was read, the lines have the same bytes, and the tables have the
+-- same records under the names in it.
 pub record Agrees (t₁ t₂ : List ℕ) (m : ℕ) (l₁ l₂ : List ℕ) : Type 0 where
   pub word : directiveOf l₂ ≡ directiveOf l₁
   pub bytes : Read m → l₂ ≡ l₁
   pub records : Read m → SameRecords t₁ t₂ (directiveOf l₁) (textOf l₁)
 
--- What is asked of a second file and table, and of the room for its marks, where the first run gave the marks ms.
+-- The second file and table, with this many marks, are comparable with the first ones, whose selection has the marks ms.
 pub record Comparable (f₁ t₁ : List ℕ) (ms : List ℕ) (f₂ t₂ : List ℕ) (room : ℕ) : Type 0 where
   pub as-many : length (lines f₂) ≡ length (lines f₁)
   pub agrees : (i : ℕ) → i < length (lines f₁) → Agrees t₁ t₂ (getD ms i 0) (getD (lines f₁) i []) (getD (lines f₂) i [])
@@ -35,17 +63,3 @@ pub record Comparable (f₁ t₁ : List ℕ) (ms : List ℕ) (f₂ t₂ : List �
   pub small : length f₂ ≤ MAX-FILE
   pub short : (i : ℕ) → i < length (lines f₂) → length (getD (lines f₂) i []) ≤ 1024
   pub enough : length (lines f₂) ≤ room
-
--- then the second run is accepted too, with the same marks and the same count
-abbrev pub Isolation : Type 0
-Isolation = (f₁ t₁ : List ℕ) (room₁ : ℕ) (ms : List ℕ) (c : ℕ) → selection f₁ t₁ room₁ ≡ accepted ms c
-    → (f₂ t₂ : List ℕ) (room₂ : ℕ) → Comparable f₁ t₁ ms f₂ t₂ room₂ → selection f₂ t₂ room₂ ≡ accepted ms c
-
--- The same of two calls: what the first one answered and left in its marks, and what the second one answers and leaves in its own, which
--- may be more or fewer.
-abbrev pub TwoCalls : Type 0
-TwoCalls = (f₁ t₁ marks₁ : List ℕ) (r₁ : Answer) (left₁ : List ℕ) → Selects f₁ t₁ marks₁ r₁ left₁
-    → (n c : ℕ) → r₁ ≡ Accepted (record { 0 = n }) c
-    → (f₂ t₂ marks₂ : List ℕ) (r₂ : Answer) (left₂ : List ℕ) → Selects f₂ t₂ marks₂ r₂ left₂
-    → Comparable f₁ t₁ (take n left₁) f₂ t₂ (length marks₂)
-    → (r₂ ≡ Accepted (record { 0 = n }) c) × (take n left₂ ≡ take n left₁)

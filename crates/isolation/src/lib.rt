@@ -1,1 +1,1 @@
-// Isolation of a selection: definitions and theorems alone. The run over the lines is the crate `select`.
+// Isolation of a selection: definitions and theorems only. The code is in the crate `select`.

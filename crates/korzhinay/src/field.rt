@@ -1,8 +1,8 @@
 // The bytes of a data field.
-ghost use Rattle.marshal.specs.FieldCall.{Fills};
+ghost use Rattle.marshal.specs.Calls.{Fills};
 
-// The bytes of a data field: 0, its length, and the field at the buffer's front; or the refusal number, a length of 0, and the buffer
-// as it was.
+// The bytes of a data field: 0, the length of the field in `written`, and the field at the front of `buffer`; or the refusal number, a
+// length of 0, and `buffer` as it was.
 #[no_mangle]
 pub extern "C" fn korzhinay_field<'a>(
     buffer: &mut [u8],

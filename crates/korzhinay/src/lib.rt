@@ -1,4 +1,4 @@
-// The calls that C, Rust and Python see, one module for each. Each hands its arguments to the crate `marshal`.
+// The calls that C, Rust and Python see, one module per call. Each passes its arguments to the crate `marshal`.
 mod evaluate;
 mod field;
 mod lookup;

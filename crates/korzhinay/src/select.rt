@@ -1,8 +1,8 @@
 // The selection of lines.
-ghost use Rattle.marshal.specs.SelectCall.{Marks};
+ghost use Rattle.marshal.specs.Calls.{Marks};
 
-// Marks the lines of a file: 0, the number of lines and the sum of counts in `out`; or the refusal number and its line, and then every mark
-// is 255.
+// Marks the lines of a file: 0, and the number of lines and the sum of counts in `out`; or the refusal number, its line in `out`, and every
+// mark 255.
 #[no_mangle]
 pub extern "C" fn korzhinay_select<'a>(
     marks: &mut [u8],

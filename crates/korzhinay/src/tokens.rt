@@ -2,7 +2,7 @@
 ghost use Rattle.token.specs.Tokens.{reading};
 ghost use Rattle.marshal.specs.Calls.{Lists};
 
-// The tokens of an expression: the refusal number or 0, how many were read, and their codes, starts, lengths and values.
+// The tokens of an expression: the refusal number or 0, the number of tokens that were read, and their codes, starts, lengths and values.
 #[no_mangle]
 pub extern "C" fn korzhinay_tokens(
     expr: &[u8],

@@ -1,4 +1,4 @@
--- How many lines a file has, told by its LFs. Assumes nothing.
+-- The number of lines of a file, by its LFs. Assumes nothing.
 use Prim.Native.Nat.{ℕ, zero, suc, _+_, _-_, _≤_, _<_}
 use native.Mathlib.Omega.{arith}
 use native.Mathlib.Numerals.{add-one}
@@ -13,7 +13,7 @@ use Rattle.text.specs.Bytes.{byte, pick}
 use Rattle.line.specs.Lines.{onto, endsLine, lines}
 use Rattle.line.specs.Cutting.{opened}
 
--- how many lines there are where k follow, and where a line has begun that has not ended
+-- the number of lines if k follow: one more if a line has begun and has not ended
 abbrev pub joined : Bool → ℕ → ℕ
 joined false k = k
 joined true zero = 1
@@ -38,7 +38,7 @@ unfolding endsLine lines
 ends-joined u [] h = absurd (false≢true h)
 ends-joined u (c ∷ s) h = rw h (joined-some u (length (lines s)))
 
--- a byte that is no LF begins a line or goes on with one
+-- a byte that is no LF begins a line or continues one
 goes-on : (u : Bool) (b : ℕ) (s : List ℕ) → eqb b (byte "\n") ≡ false → joined u (length (lines (b ∷ s))) ≡ joined true (length (lines s))
 unfolding lines
 goes-on u b s e = rw e (by (eqb b (byte "\r")) (endsLine s) refl)

@@ -1,4 +1,4 @@
--- The first line of a file's rest, as the code cuts it off. Assumes nothing.
+-- The first line of the rest of a file, as the code cuts it off. Assumes nothing.
 use Prim.Native.Nat.{ℕ, zero, suc, _+_, _-_, _≤_, _<_}
 use native.Mathlib.Nat.{add-zero}
 use native.Mathlib.Omega.{arith}
@@ -16,7 +16,7 @@ use Rattle.text.proofs.Laws.{span-fits-at}
 use Rattle.line.specs.Lines.{onto, endsLine, lines}
 use Rattle.line.specs.Cutting.{lineEnd, Cuts}
 
--- the first line of a text ends as the code has it, and the others follow
+-- the first line of a text ends as in the code, and the others follow
 abbrev Splits : List ℕ → Type 0
 Splits s = lines s ≡ take (lineEnd s 0 (span NotLineFeed s)) s ∷ lines (drop (suc (span NotLineFeed s)) s)
 
@@ -24,7 +24,7 @@ pick-suc : (t : Bool) (n : ℕ) → pick t (suc n) (suc (suc n)) ≡ suc (pick t
 pick-suc true n = refl
 pick-suc false n = refl
 
--- the end of a first line before whose LF, or end, some byte stands
+-- the end of a first line with some byte before its LF, or before the end
 end-at : (s : List ℕ) (n : ℕ) → lineEnd s 0 (suc n) ≡ pick (ltb (suc n) (length s) && eqb (getD s n 0) (byte "\r")) n (suc n)
 unfolding lineEnd
 end-at s n = let last : suc n - 1 ≡ n = omega arith in rw (lt-ltb 0 (suc n) (omega arith), last)
@@ -40,7 +40,7 @@ module _ (b : ℕ) where
   empty-line s e = rw (e, lt-ltb 0 (suc (length s)) (omega arith))
 
   module _ (c : ℕ) (s : List ℕ) (eb : eqb b (byte "\n") ≡ false) where
-    -- the LF stands right behind b
+    -- the LF follows b directly
     short-line : (t : Bool) → eqb b (byte "\r") ≡ t → eqb c (byte "\n") ≡ true → Splits (b ∷ c ∷ s)
     unfolding lines onto endsLine span lineEnd
     short-line true e ec = rw (eb, ec, e, lt-ltb 1 (suc (suc (length s))) (omega arith))
@@ -103,7 +103,7 @@ module _ (f : List ℕ) (a : ℕ) where
       rw (lt-ltb a (a + suc k) (omega arith), n, same-bound (suc k), ← getD-drop a f k 0, end-at (drop a f) k)
       (pick-add (ltb (suc k) (length (drop a f)) && eqb (getD (drop a f) k 0) (byte "\r")) k)
 
--- the line that starts at a and has its LF, or the file's end, at e
+-- the line that starts at a and has its LF, or the end of the file, at e
 module _ (f : List ℕ) (a e : ℕ) where
   -- it ends within its file, at its start or later
   end-within : a ≤ e → e ≤ length f → (a ≤ lineEnd f a e) × (lineEnd f a e ≤ length f)

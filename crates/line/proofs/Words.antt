@@ -1,4 +1,4 @@
--- Words compared by their length first, and where the text after a word starts. Assumes nothing.
+-- Words compared by their length first, and the start of the text after a word. Assumes nothing.
 use Prim.Native.Nat.{ℕ, _+_, _-_, _≤_, _<_}
 use native.Mathlib.Omega.{arith}
 use mathlib.Core.Path.{_≡_, refl, sym, _∙_}
@@ -20,7 +20,7 @@ abbrev pub ofLength : ℕ → List Word → List Word
 ofLength n [] = []
 ofLength n (x ∷ xs) = pick (eqb (length (x .text)) n) (x ∷ ofLength n xs) (ofLength n xs)
 
--- only the words of its own length count for a word
+-- a word is looked up among the words of its length
 pub by-length : (xs : List Word) (w : List ℕ) (n : ℕ) → length w ≡ n → named xs w ≡ named (ofLength n xs) w
 unfolding named
 by-length [] w n h = refl
@@ -40,7 +40,7 @@ unknown-length w a b c d e = by-length words w (length w) refl ∙ simp (other 2
     other : (n : ℕ) → (length w ≡ n → ⊥) → eqb n (length w) ≡ false
     other n h = ne-eqb n (length w) (λ k. h (sym k))
 
--- a line whose first byte that is no blank stands at `first`
+-- a line whose first byte that is no blank is at `first`
 module _ (l : List ℕ) {first : ℕ} (at : first ≡ 0 + span Blanks l) where
   blanks : span Blanks l ≡ first
   blanks = omega arith
@@ -56,7 +56,7 @@ module _ (l : List ℕ) {first : ℕ} (at : first ≡ 0 + span Blanks l) where
   unfolding directiveOf
   plain-line h = rw (blanks, ne-eqb _ _ h)
 
-  -- the letters behind that byte go up to `after`
+  -- the letters after that byte go up to `after`
   module _ {after : ℕ} (to : after ≡ first + 1 + span Letters (drop (first + 1) l)) where
     pub word-inside : first < length l → after ≤ length l
     word-inside h = omega (arith, span-fits-at Letters l (first + 1) (omega arith))

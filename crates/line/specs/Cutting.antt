@@ -1,4 +1,4 @@
--- A file cut into its lines from the front: what functions between the layers promise each other.
+-- A file cut into its lines, from the front. Contracts between layers cite this; no promise about a file does.
 use Prim.Native.Nat.{ℕ, _+_, _-_, _≤_, _<_}
 use mathlib.Core.Path.{_≡_}
 use mathlib.Core.Bool.{Bool, not, _&&_}
@@ -15,8 +15,8 @@ use Rattle.line.specs.declared.cut.Cut.{Cut}
 use Rattle.line.specs.declared.Head.{Head}
 use Rattle.line.specs.declared.Directive.the-variants.{Plain}
 
--- The line that starts at a byte is cut off: its bytes are those up to `end`, and the other lines are those from `after` on, the byte
--- behind its LF, or one past the file's end where it has none.
+-- The line that starts at a byte is cut off: its bytes are those up to `end`. The other lines start at `after`: the byte after the LF, or
+-- one past the end of the file if there is no LF.
 pub record Cuts (f : List ℕ) (from : ℕ) (r : Cut) : Type 0 where
   pub first : lines (drop from f) ≡ take (r .end .0 - from) (drop from f) ∷ lines (drop (r .after .0) f)
   pub starts : from ≤ r .end .0
@@ -24,23 +24,23 @@ pub record Cuts (f : List ℕ) (from : ℕ) (r : Cut) : Type 0 where
   pub onward : from < r .after .0
   pub after-is : r .after .0 ≡ from + span NotLineFeed (drop from f) + 1
 
--- What a line is, and where the text after its word starts, for a line that is not plain.
+-- The directive of a line, and for a line that is not plain the start of the text after its word.
 pub record ReadsHead (l : List ℕ) (r : Head) : Type 0 where
   pub directive : r .directive ≡ directiveOf l
   pub within : r .text .0 ≤ length l
   pub starts : (directiveOf l ≡ Plain → ⊥) → r .text .0 ≡ textStart l
 
--- The text after a line's word is handed on as a part of the line: its bytes, and its place in memory where the word ends within the line.
+-- The text after the word is handed on as a part of the line: its bytes, and its place in memory if the word ends within the line.
 pub record HandsText (l r : RefT (List ℕ)) : Type 0 where
   pub bytes : now r ≡ textOf (now l)
   pub block : ptr r .0 ≡ ptr l .0
   pub offset : textStart (now l) ≤ length (now l) → ptr r .1 ≡ ptr l .1 + textStart (now l)
 
--- Where the line ends that starts at a byte and whose LF, or else the file's end, is at byte lf: a CR of the line directly before an LF
--- is dropped. (The contract of a private function cites this; no public promise does.)
+-- The end of the line that starts at a byte and has its LF, or else the end of the file, at byte lf: a CR of the line directly before an LF
+-- is dropped.
 unfoldable pub lineEnd : List ℕ → ℕ → ℕ → ℕ
 lineEnd f from lf = pick (ltb lf (length f) && (ltb from lf && eqb (getD f (lf - 1) 0) (byte "\r"))) (lf - 1) lf
 
--- Whether a line has begun before byte i that has not ended. (Likewise.)
+-- Whether a line that began before byte i has not ended there.
 unfoldable pub opened : List ℕ → ℕ → Bool
 opened f i = ltb 0 i && not (eqb (getD f (i - 1) 0) (byte "\n"))

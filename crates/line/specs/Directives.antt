@@ -1,5 +1,5 @@
--- What a line is (document 01, "Lines and directives"): plain, or a directive by its word. A word is the run of letters behind a `!` that
--- is the line's first byte that is no blank.
+-- The directive of a line, by its word (document 01, "Lines and directives"); a line without one is plain. A word is the run of letters
+-- after a `!` that is the first byte of the line that is no blank.
 use Prim.Native.Nat.{ℕ, _+_}
 use Prim.Native.String.{String}
 use mathlib.Core.List.{List, [], _∷_}
@@ -12,7 +12,7 @@ use Rattle.text.specs.declared.runs.Set.the-variants.{Blanks, Letters}
 use Rattle.line.specs.declared.Directive.{Directive}
 use Rattle.line.specs.declared.Directive.the-variants.{Plain, If, Ifdef, Ifndef, Elseif, Else, Endif, Unknown}
 
--- a word, and what it makes of its line
+-- a word and its directive
 pub record Word : Type 0 where
   pub text : List ℕ
   pub directive : Directive
@@ -39,7 +39,7 @@ unfoldable pub named : List Word → List ℕ → Directive
 named [] w = Unknown
 named (x ∷ xs) w = pick (equal w (x .text)) (x .directive) (named xs w)
 
--- where the word of a line starts that has one, and where the text after it starts
+-- the start of the word in a line that has one, and the start of the text after it
 unfoldable pub wordStart : List ℕ → ℕ
 wordStart l = span Blanks l + 1
 

@@ -35,7 +35,7 @@ files-hold : map (λ x. lines (bytes (x .file))) files ≡ map (λ x. map bytes 
 unfolding onto endsLine lines
 files-hold = refl
 
--- a line, what it is, and the text after its word
+-- a line, its directive, and the text after its word
 pub record LineCase : Type 0 where
   pub line : List ℕ
   pub directive : Directive

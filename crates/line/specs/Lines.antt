@@ -1,5 +1,5 @@
--- The lines of a file (document 01, "Lines and directives"). An LF ends a line, and takes a CR with it that stands right before it. What
--- follows the last LF is a line too, unless nothing does.
+-- The lines of a file (document 01, "Lines and directives"). A line ends at an LF; the LF, and a CR directly before it, are no part of the
+-- line. The bytes after the last LF are a line too, if there are any.
 use Prim.Native.Nat.{ℕ}
 use mathlib.Core.Bool.{Bool, false, _&&_}
 use mathlib.Core.List.{List, [], _∷_}
@@ -11,7 +11,7 @@ unfoldable pub onto : ℕ → List (List ℕ) → List (List ℕ)
 onto b [] = (b ∷ []) ∷ []
 onto b (l ∷ ls) = (b ∷ l) ∷ ls
 
--- an LF stands next
+-- the next byte is an LF
 unfoldable pub endsLine : List ℕ → Bool
 endsLine [] = false
 endsLine (b ∷ s) = eqb b (byte "\n")

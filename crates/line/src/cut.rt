@@ -11,14 +11,14 @@ ghost use Rattle.text.specs.declared.runs.Set.the-variants.{NotLineFeed};
 ghost use Rattle.line.specs.Lines.{lines};
 ghost use Rattle.line.specs.Cutting.{lineEnd, opened, Cuts};
 
-// Where a line ends, and where the one after it starts: at the file's end or past it if there is none.
+// The end of a line, and the start of the next one: at the end of the file or past it if there is none.
 pub struct Cut {
     pub end: Offset,
     pub after: Offset,
 }
 
-// Where the line ends that starts at `from` and has its LF, or else the file's end, at `lf`. A CR before an LF is dropped, but only one
-// of this line's own bytes; at the file's end a CR stands before no LF and stays.
+// The end of the line that starts at `from` and has its LF, or else the end of the file, at `lf`. A CR of this line directly before the LF
+// is dropped; a CR at the end of the file is kept.
 fn line_end(file: &[u8], from: Offset, lf: Offset) -> Offset
     requires { ⌜ lf .0 ≤ length (now file) ⌝ }
     ensures { λ r. ⌜ r .0 ≡ lineEnd (now (file .entry)) (from .0) (lf .0) ⌝ }
@@ -31,14 +31,14 @@ fn line_end(file: &[u8], from: Offset, lf: Offset) -> Offset
     if file[last] != b'\r' {
         return lf;
     }
-    // last, since few lines come so far
+    // the last test, since few lines reach it
     if file.len() <= at {
         return lf;
     }
     Offset(last)
 }
 
-// Where the first LF from a byte on is, or the file's end. Eight bytes per turn, so that the loop's own cost is shared by eight.
+// The place of the first LF from a byte on, or the end of the file. Eight bytes per turn, so that the cost of the loop is shared by eight.
 fn lf_from(file: &[u8], from: Offset) -> Offset
     requires { ⌜ from .0 ≤ length (now file) ⌝ }
     ensures { λ r. ⌜ r .0 ≡ from .0 + span NotLineFeed (drop (from .0) (now (file .entry))) ⌝ }
@@ -81,7 +81,7 @@ pub fn next(file: &[u8], from: Offset) -> Cut
 {
     let lf = lf_from(file, from);
     let end = line_end(file, from, lf);
-    // past the end where no LF was found, so that no line starts there and no caller needs a case for it
+    // past the end if there is no LF, so that no line starts there and no caller needs a case for it
     let after = Offset(lf.0 + 1);
     Cut { end, after }
 }
@@ -97,10 +97,10 @@ fn is_open(file: &[u8]) -> bool
     file[n - 1] != b'\n'
 }
 
-// How many bytes are counted in one block: a multiple of 32, and few enough that a u8 can count their LFs.
+// The number of bytes in one block: a multiple of 32, and so small that a u8 can count the LFs.
 const BLOCK: usize = 224;
 
-// Where the block that starts at a byte ends.
+// The end of the block that starts at a byte.
 fn block_end(len: usize, from: Offset) -> Offset
     requires { ⌜ from .0 < len ⌝ }
     ensures { λ r. ⌜ (from .0 < r .0) × (r .0 ≤ len) × (r .0 ≤ from .0 + 224) ⌝ }
@@ -113,8 +113,8 @@ fn block_end(len: usize, from: Offset) -> Offset
     }
 }
 
-// How many lines a file has, by its LFs. The inner loop has no early exit and a u8 as its counter, so that it vectorises with a byte per
-// lane; a wider counter takes several times the instructions.
+// The number of lines of a file, by its LFs. The inner loop has no early exit and a u8 as its counter, so that it vectorises with a byte
+// per lane; a wider counter takes several times the instructions.
 pub fn count(file: &[u8]) -> LineNumber
     ensures { λ r. ⌜ r .0 ≡ length (lines (now (file .entry))) ⌝ }
 {

@@ -4,7 +4,7 @@ pub mod word;
 
 use units::Offset;
 
-// What a line is: plain, or a directive by its word.
+// The directive of a line by its word, or that the line is plain.
 pub enum Directive {
     Plain,
     If,
@@ -16,14 +16,14 @@ pub enum Directive {
     Unknown,
 }
 
-// The head of a line: what the line is, and where the text after its word starts.
+// The head of a line: its directive, and the start of the text after its word.
 pub struct Head {
     pub directive: Directive,
     pub text: Offset,
 }
 
-// What the text after a directive's word says: whether the branch is taken, with the count of operators, or the number of the refusal. The
-// crate `condition` says what it is of a text.
+// The condition of a directive: it holds or fails, with the number of operators that were applied, or the number of the refusal. The crate
+// `condition` evaluates it.
 pub enum Condition {
     Holds(usize),
     Fails(usize),

@@ -1,4 +1,4 @@
-// What a line is by its word, and the text after the word.
+// The directive of a line by its word, and the text after the word.
 use crate::Directive;
 use crate::Head;
 use text::bytes;
@@ -14,7 +14,7 @@ ghost use lib.ListN.{length};
 ghost use Rattle.line.specs.Directives.{words, named as namedIn, textStart};
 ghost use Rattle.line.specs.Cutting.{ReadsHead, HandsText};
 
-// The first of two answers where a word is spelled so, else the second.
+// The directive `this` if the word has this spelling, else `other`.
 fn spelled(w: &[u8], text: &[u8], this: Directive, other: Directive) -> Directive
     ensures { λ r. ⌜ r ≡ pick (equal (now (w .entry)) (now (text .entry))) this other ⌝ }
 {
@@ -25,7 +25,7 @@ fn spelled(w: &[u8], text: &[u8], this: Directive, other: Directive) -> Directiv
     }
 }
 
-// What a word makes of its line. By the length first, so that at most three spellings are compared.
+// The directive of a word. The length is compared first, so that at most three spellings are compared.
 fn named(w: &[u8]) -> Directive
     ensures { λ r. ⌜ r ≡ namedIn words (now (w .entry)) ⌝ }
 {
@@ -50,8 +50,7 @@ fn named(w: &[u8]) -> Directive
     }
 }
 
-// What a line is, and where the text after its word starts. A line that has no word, or is plain by its word, has no such text: then the
-// place is some place within the line.
+// The directive of a line, and the start of the text after its word. For a plain line the start is any place within the line.
 pub fn read_head(line: &[u8]) -> Head
     ensures { λ r. ⌜ ReadsHead (now (line .entry)) r ⌝ }
 {
@@ -69,7 +68,7 @@ pub fn read_head(line: &[u8]) -> Head
     Head { directive, text }
 }
 
-// The text after a line's word, from where it starts up to the line's end.
+// The text after the word of a line, up to the end of the line.
 pub fn text(line: &[u8], from: Offset) -> &[u8]
     requires { ⌜ from .0 ≤ length (now line) ⌝ }
     ensures { λ r. ⌜ (from .0 ≡ textStart (now (line .entry)) → HandsText (line .entry) r) ⌝ }

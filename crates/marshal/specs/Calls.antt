@@ -1,37 +1,80 @@
--- The answers of the exported calls as numbers in lent arrays.
+-- What the exported calls answer: a number, which is 0 or the number of a refusal, and numbers in lent arrays.
 use Prim.Native.Nat.{ℕ}
 use mathlib.Core.Path.{_≡_}
 use mathlib.Core.List.{List, [], _∷_}
 use lib.ListN.{length}
 use Rattle.units.specs.Refusals.{TABLE-MALFORMED}
 use Rattle.text.specs.Bytes.{pick}
+use Rattle.text.specs.Parts.{stored}
 use Rattle.settings.specs.Table.{wellFormed}
 use Rattle.lookup.specs.Setting.{settingUnder}
 use Rattle.lookup.specs.declared.Setting.{Setting}
 use Rattle.lookup.specs.declared.Setting.the-variants.{Number, String, Wide, Missing}
-use Rattle.text.specs.Parts.{stored}
 use Rattle.token.specs.Tokens.{Reading, Stored}
 use Rattle.token.specs.declared.scan.Ending.{Ending}
 use Rattle.token.specs.declared.scan.Ending.the-variants.{Complete, Refused}
+use Rattle.evaluation.specs.Evaluation.{Evaluation, refusalNumber, kindNumberOf, numberOf, countOf, placeOf, evaluation}
+use Rattle.select.specs.Select.{selection, answerOf, refusalNumber as selectionNumber, lineOf, numberOfLines, countOf as selectionCount, marksOf}
+use Rattle.select.specs.declared.Answer.{Answer}
+use Rattle.datum.specs.declared.Written.{Written}
+use Rattle.datum.specs.declared.Written.the-variants.{Length, Refused as Unwritten}
+use Rattle.field.specs.Fields.{fieldOf}
 
--- a setting as a kind, a number or a start, and a length
-abbrev pub shown : Setting → List ℕ
-shown (Number v) = 0 ∷ v ∷ 0 ∷ []
-shown (String p) = 1 ∷ p .start .0 ∷ p .len ∷ []
-shown (Wide p) = 2 ∷ p .start .0 ∷ p .len ∷ []
-shown Missing = 255 ∷ 0 ∷ 0 ∷ []
+-- a setting as three numbers: its kind, its number or the start of its string, and the string's length
+abbrev pub settingShown : Setting → List ℕ
+settingShown (Number v) = 0 ∷ v ∷ 0 ∷ []
+settingShown (String p) = 1 ∷ p .start .0 ∷ p .len ∷ []
+settingShown (Wide p) = 2 ∷ p .start .0 ∷ p .len ∷ []
+settingShown Missing = 255 ∷ 0 ∷ 0 ∷ []
 
--- a lookup: 0 and what stands under the name, or 1 for a malformed table, and then the array stays as it was
+-- a lookup: 0 and the setting under the name; or 1 for a malformed table, and the array keeps its entries
 pub record Shows (t n out : List ℕ) (r : ℕ) (out′ : List ℕ) : Type 0 where
   pub refused : r ≡ pick (wellFormed t) 0 TABLE-MALFORMED
-  pub written : out′ ≡ pick (wellFormed t) (stored (shown (settingUnder t n)) out) out
+  pub written : out′ ≡ pick (wellFormed t) (stored (settingShown (settingUnder t n)) out) out
 
--- the refusal number of an ending, 0 where nothing was refused
-abbrev pub refusalNumber : Ending → ℕ
-refusalNumber Complete = 0
-refusalNumber (Refused r) = r .number
+-- the refusal number of an ending, 0 if nothing was refused
+abbrev pub endingNumber : Ending → ℕ
+endingNumber Complete = 0
+endingNumber (Refused r) = r .number
 
--- the arrays hold the reading's refusal number, how many tokens were read, and the tokens
+-- the tokens: the arrays hold the refusal number of the reading, the number of tokens that were read, and the tokens
 pub record Lists (read : Reading) (out codes starts lens values out′ codes′ starts′ lens′ values′ : List ℕ) : Type 0 where
-  pub head : out′ ≡ stored (refusalNumber (read .ending) ∷ length (read .tokens) ∷ []) out
+  pub head : out′ ≡ stored (endingNumber (read .ending) ∷ length (read .tokens) ∷ []) out
   pub tokens : Stored read codes starts lens values codes′ starts′ lens′ values′
+
+-- The answer to an expression as six numbers: the kind, the number, the count of operators, and the place of a string: 1 for the table and
+-- 0 for the expression, its start, its length. The line of the answer is always 0 and is not among them.
+abbrev pub answerShown : Evaluation → List ℕ
+answerShown a =
+    kindNumberOf a ∷ numberOf a ∷ countOf a ∷ pick (placeOf a .tabled) 1 0 ∷ placeOf a .start .0 ∷ placeOf a .len ∷ []
+
+-- the answer to an expression e over a table t: the number of the refusal, 0 with a value, and the array
+pub record Answers (e t out : List ℕ) (r : ℕ) (out′ : List ℕ) : Type 0 where
+  pub refused-with : r ≡ refusalNumber (evaluation e t)
+  pub written : out′ ≡ stored (answerShown (evaluation e t)) out
+
+-- the number of the refusal, 0 if the field was written
+abbrev pub writtenNumber : Written → ℕ
+writtenNumber (Length n) = 0
+writtenNumber (Unwritten r) = r .number
+
+-- the length of the field, 0 with a refusal
+abbrev pub writtenLength : Written → ℕ
+writtenLength (Length n) = n
+writtenLength (Unwritten r) = 0
+
+-- the field of an expression e over a table t: the number, the length, and the buffer
+pub record Fills (e t : List ℕ) (datum : ℕ) (buffer : List ℕ) (r written : ℕ) (buffer′ : List ℕ) : Type 0 where
+  pub refused-with : r ≡ writtenNumber (fieldOf e t datum buffer .answer)
+  pub length-is : written ≡ writtenLength (fieldOf e t datum buffer .answer)
+  pub buffer-is : buffer′ ≡ fieldOf e t datum buffer .buffer
+
+-- the answer of a selection as three numbers: the line of a refusal, the number of lines, the sum of counts
+abbrev pub selectionShown : Answer → List ℕ
+selectionShown a = lineOf a ∷ numberOfLines a ∷ selectionCount a ∷ []
+
+-- the selection of a file f over a table t
+pub record Marks (f t marks out : List ℕ) (r : ℕ) (marks′ out′ : List ℕ) : Type 0 where
+  pub refused-with : r ≡ selectionNumber (answerOf (selection f t (length marks)))
+  pub shown : out′ ≡ stored (selectionShown (answerOf (selection f t (length marks)))) out
+  pub marks-are : marks′ ≡ marksOf marks (selection f t (length marks))

@@ -9,7 +9,7 @@ ghost use Prim.Native.Nat.{ℕ};
 ghost use Rattle.text.specs.Bytes.{pick};
 ghost use Rattle.text.specs.Parts.{stored};
 ghost use Rattle.evaluation.specs.Evaluation.{value as valued, denoteAnswerValue};
-ghost use Rattle.marshal.specs.Expressions.{answerShown, Answers};
+ghost use Rattle.marshal.specs.Calls.{answerShown, Answers};
 
 // A flag as a number.
 fn one_if(flag: bool) -> u64
@@ -18,7 +18,7 @@ fn one_if(flag: bool) -> u64
     if flag { 1 } else { 0 }
 }
 
-// Stores a number with its count of operators; all zeros stand for no value.
+// Stores a number with its count of operators; for a refusal all are 0.
 fn show_number(out: &mut [u64; 6], x: u64, count: u64)
     ensures { λ r. ⌜ now (out .exit) ≡ stored (0 ∷ x ∷ count ∷ 0 ∷ 0 ∷ 0 ∷ []) (now (out .entry)) ⌝ }
 {
@@ -30,7 +30,7 @@ fn show_number(out: &mut [u64; 6], x: u64, count: u64)
     out[5] = 0;
 }
 
-// Stores where a string stands.
+// Stores the place of a string.
 fn show_string(out: &mut [u64; 6], kind: u64, place: Place, count: u64)
     ensures { λ r. ⌜ now (out .exit) ≡ stored (kind ∷ 0 ∷ count ∷ pick (place .tabled) 1 0 ∷ place .start .0 ∷ place .len ∷ []) (now (out .entry)) ⌝ }
 {
@@ -56,7 +56,7 @@ fn show_value(out: &mut [u64; 6], v: AnswerValue, count: usize)
     }
 }
 
-// The value of an expression over a table: 0 and the value in `out`, or the refusal number, and then `out` is all zeros.
+// The value of an expression over a table: 0 and the value in `out`; or the refusal number, and `out` is all zeros.
 pub fn answer<'a>(expr: &'a [u8], table: &'a [u8], out: &mut [u64; 6]) -> u8
     ensures { λ r. ⌜ Answers (now (expr .entry)) (now (table .entry)) (now (out .entry)) r (now (out .exit)) ⌝ }
 {

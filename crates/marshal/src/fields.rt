@@ -1,9 +1,9 @@
 // The call on data fields.
 use datum::Written;
-ghost use Rattle.marshal.specs.FieldCall.{Fills};
+ghost use Rattle.marshal.specs.Calls.{Fills};
 
-// The bytes of a data field: 0, its length, and the field at the buffer's front; or the refusal number, a length of 0, and the buffer
-// as it was.
+// The bytes of a data field: 0, the length of the field in `written`, and the field at the front of `buffer`; or the refusal number, a
+// length of 0, and `buffer` as it was.
 pub fn fill<'a>(
     buffer: &mut [u8],
     expr: &'a [u8],

@@ -1,4 +1,4 @@
-// The answers of the layers below as numbers in lent arrays: a function for each exported call.
+// The answers of the layers below as numbers in lent arrays: one function for each exported call.
 pub mod expressions;
 pub mod fields;
 pub mod selections;

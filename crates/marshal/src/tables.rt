@@ -7,9 +7,9 @@ ghost use Rattle.text.specs.Bytes.{pick};
 ghost use Rattle.settings.specs.Table.{wellFormed};
 ghost use Rattle.lookup.specs.Setting.{settingUnder};
 ghost use Rattle.text.specs.Parts.{stored};
-ghost use Rattle.marshal.specs.Calls.{shown, Shows};
+ghost use Rattle.marshal.specs.Calls.{settingShown, Shows};
 
-// 0 where the table is well formed, else 1.
+// 0 if the table is well formed, else 1.
 pub fn check(table: &[u8]) -> u8
     ensures { λ r. ⌜ r ≡ pick (wellFormed (now (table .entry))) 0 TABLE-MALFORMED ⌝ }
 {
@@ -20,10 +20,10 @@ pub fn check(table: &[u8]) -> u8
     }
 }
 
-// Stores what stands under a name: its kind, its number or where its string starts, and the string's length.
+// Stores the setting under a name: its kind, its number or the start of its string, and the length of the string.
 fn show(table: &[u8], name: &[u8], out: &mut [u64; 3])
     requires { ⌜ wellFormed (now table) ≡ true ⌝ }
-    ensures { λ r. ⌜ now (out .exit) ≡ stored (shown (settingUnder (now (table .entry)) (now (name .entry)))) (now (out .entry)) ⌝ }
+    ensures { λ r. ⌜ now (out .exit) ≡ stored (settingShown (settingUnder (now (table .entry)) (now (name .entry)))) (now (out .entry)) ⌝ }
 {
     match lookup::lookup(table, name) {
         Setting::Number(value) => {
@@ -51,7 +51,7 @@ fn show(table: &[u8], name: &[u8], out: &mut [u64; 3])
     }
 }
 
-// What stands under a name: 0 and the answer in `out`, or 1 where the table is malformed, and `out` stays.
+// The setting under a name: 0 and the setting in `out`; or 1 if the table is malformed, and `out` as it was.
 pub fn look_up(table: &[u8], name: &[u8], out: &mut [u64; 3]) -> u8
     ensures { λ r. ⌜ Shows (now (table .entry)) (now (name .entry)) (now (out .entry)) r (now (out .exit)) ⌝ }
 {

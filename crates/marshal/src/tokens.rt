@@ -3,11 +3,11 @@ use token::scan;
 use token::scan::Ending;
 ghost use mathlib.Core.Path.{_≡_};
 ghost use Rattle.token.specs.Tokens.{reading};
-ghost use Rattle.marshal.specs.Calls.{Lists, refusalNumber};
+ghost use Rattle.marshal.specs.Calls.{Lists, endingNumber};
 
-// The refusal number of an ending, 0 where nothing was refused.
+// The refusal number of an ending, 0 if nothing was refused.
 fn number_of(ending: Ending) -> u8
-    ensures { λ r. ⌜ r ≡ refusalNumber ending ⌝ }
+    ensures { λ r. ⌜ r ≡ endingNumber ending ⌝ }
 {
     match ending {
         Ending::Complete => 0,
@@ -15,7 +15,7 @@ fn number_of(ending: Ending) -> u8
     }
 }
 
-// The tokens of an expression: the refusal number or 0, how many were read, and their codes, starts, lengths and values.
+// The tokens of an expression: the refusal number or 0, the number of tokens that were read, and their codes, starts, lengths and values.
 pub fn list(
     expr: &[u8],
     out: &mut [u64; 2],

@@ -1,4 +1,4 @@
--- What every outcome of a line has: the count that was handed in, and, where the directive was read, a mark of 3 or more. Assumes nothing.
+-- Every outcome of a line has the count that was given, and a mark of 3 or more exactly if the directive is read. Assumes nothing.
 use Prim.Native.Nat.{ℕ, _≤_}
 use native.Mathlib.Omega.{arith}
 use mathlib.Core.Path.{_≡_, refl, sym, _∙_}
@@ -59,7 +59,7 @@ abbrev pub Marked : Outcome → Type 0
 Marked (go m s) = 3 ≤ m
 Marked (stop r) = Unit
 
--- the mark in a ruling
+-- the mark in a transition
 abbrev Ruled : Transition → Type 0
 Ruled (Stay m) = 3 ≤ m
 Ruled (Switch m s) = 3 ≤ m

@@ -1,4 +1,5 @@
--- A selection holds the open groups: the innermost group's digit, and what a group opened, changed or closed leaves. Assumes nothing.
+-- A selection represents the open groups: the digit of the innermost group, and the selection after a push, a change or a pop. Assumes
+-- nothing.
 use Prim.Native.Nat.{ℕ, zero, suc, _+_, _-_, _*_, _/_, _%_, _≤_, _<_}
 use native.Mathlib.Omega.{arith}
 use mathlib.Core.Path.{_≡_, refl, sym, ap, _∙_}
@@ -14,7 +15,7 @@ use Rattle.ruling.specs.declared.GroupState.{GroupState}
 use Rattle.ruling.specs.declared.GroupState.the-variants.{NoGroup, Skipped, Pending, Active, Done}
 use Rattle.nesting.specs.declared.Selection.{Selection}
 
--- an entry tells what was put into it
+-- decoding a digit gives back what was encoded
 state-told : (s : GroupState) (b : Bool) → stateIn (entryOf s b) ≡ s
 unfolding stateIn
 state-told NoGroup true = refl
@@ -28,28 +29,28 @@ state-told Active false = refl
 state-told Done true = refl
 state-told Done false = refl
 
--- whether its `!else` was met
+-- whether its `!else` was seen
 abbrev elseSeenIn : ℕ → Bool
 elseSeenIn e = leb 8 e
 
-closed-told : (s : GroupState) (b : Bool) → elseSeenIn (entryOf s b) ≡ b
-closed-told NoGroup true = refl
-closed-told NoGroup false = refl
-closed-told Skipped true = refl
-closed-told Skipped false = refl
-closed-told Pending true = refl
-closed-told Pending false = refl
-closed-told Active true = refl
-closed-told Active false = refl
-closed-told Done true = refl
-closed-told Done false = refl
+else-seen-encoded : (s : GroupState) (b : Bool) → elseSeenIn (entryOf s b) ≡ b
+else-seen-encoded NoGroup true = refl
+else-seen-encoded NoGroup false = refl
+else-seen-encoded Skipped true = refl
+else-seen-encoded Skipped false = refl
+else-seen-encoded Pending true = refl
+else-seen-encoded Pending false = refl
+else-seen-encoded Active true = refl
+else-seen-encoded Active false = refl
+else-seen-encoded Done true = refl
+else-seen-encoded Done false = refl
 
--- where no group is open
+-- no group is open
 none : (gs : List Group) → length gs ≡ 0 → gs ≡ []
 none [] h = refl
 none (g ∷ gs) h = absurd (omega arith)
 
--- an entry is a digit, and as many digits as there are groups make up their number
+-- an entry is a digit, and the number has as many digits as there are groups
 entry-small : (s : GroupState) (b : Bool) → entryOf s b < 16
 entry-small NoGroup true = omega arith
 entry-small NoGroup false = omega arith
@@ -72,7 +73,7 @@ packed-small zero (g ∷ gs) h = absurd (omega arith)
 packed-small (suc k) [] h = omega (arith, packed-small k [] (omega arith))
 packed-small (suc k) (group s b n ∷ gs) h = omega (arith, packed-small k gs (omega arith), entry-small s b)
 
--- a store at a place where no group has its line
+-- a store past the lines of the open groups
 above-line : (gs : List Group) (ls : List ℕ) (i v : ℕ) → length gs ≤ i → Lined gs ls → Lined gs (set ls i v)
 above-line [] ls i v h k = tt
 above-line (group s b n ∷ gs) ls i v h k = (getD-set-other ls i (length gs) v 0 (λ e. omega arith) ∙ k .0, above-line gs ls i v (omega arith) (k .1))
@@ -86,10 +87,10 @@ module _ (x : Selection) (t : State) (r : Represents x t) where
   pub outside : x .depth ≡ 0 → NoGroup ≡ stateOf (t .groups)
   outside e = sym (ap stateOf (none (t .groups) (sym (r .depth) ∙ e)))
 
-  pub outside-closed : x .depth ≡ 0 → false ≡ elseSeenOf (t .groups)
-  outside-closed e = sym (ap elseSeenOf (none (t .groups) (sym (r .depth) ∙ e)))
+  pub outside-else : x .depth ≡ 0 → false ≡ elseSeenOf (t .groups)
+  outside-else e = sym (ap elseSeenOf (none (t .groups) (sym (r .depth) ∙ e)))
 
-  -- the innermost group's digit
+  -- the digit of the innermost group
   top : (x .depth ≡ 0 → ⊥) → (P : ℕ → GroupState → Bool → Type 0) → ((s : GroupState) (b : Bool) → P (entryOf s b) s b)
       → P (x .states % 16) (stateOf (t .groups)) (elseSeenOf (t .groups))
   top some P h = by (t .groups) refl
@@ -103,8 +104,8 @@ module _ (x : Selection) (t : State) (r : Represents x t) where
   pub top-state : (x .depth ≡ 0 → ⊥) → stateIn (x .states % 16) ≡ stateOf (t .groups)
   top-state some = top some (λ e s b. stateIn e ≡ s) state-told
 
-  pub top-closed : (x .depth ≡ 0 → ⊥) → elseSeenIn (x .states % 16) ≡ elseSeenOf (t .groups)
-  top-closed some = top some (λ e s b. elseSeenIn e ≡ b) closed-told
+  pub top-else : (x .depth ≡ 0 → ⊥) → elseSeenIn (x .states % 16) ≡ elseSeenOf (t .groups)
+  top-else some = top some (λ e s b. elseSeenIn e ≡ b) else-seen-encoded
 
   pub pushed : (s : GroupState) (n : ℕ) → x .depth < 16
       → Represents (record {
@@ -129,7 +130,7 @@ module _ (x : Selection) (t : State) (r : Represents x t) where
   abbrev state-as : (depth standings : ℕ) → Selection
   state-as d w = record { depth = d; count = x .count; states = w; lines = x .lines }
 
-  -- the innermost group changed to stand otherwise, with its `!else` met or not
+  -- the innermost group with another state, its `!else` seen or not
   module _ (some : x .depth ≡ 0 → ⊥) (s : GroupState) where
     with-digit : (w : GroupState) (b c : Bool) (n : ℕ) (gs : List Group) → t .groups ≡ group w b n ∷ gs
         → Represents (state-as (x .depth) (x .states / 16 * 16 + entryOf s c)) (state (group s c n ∷ gs) (t .count))
@@ -180,7 +181,7 @@ module _ (x : Selection) (t : State) (r : Represents x t) where
             lines-long = r .lines-long;
           }
 
-  -- nothing is open, so nothing changes
+  -- no group is open, so nothing changes
   pub unchanged : x .depth ≡ 0 → (f : List Group → List Group) → f [] ≡ [] → Represents x (state (f (t .groups)) (t .count))
   unchanged e f h =
       let z = none (t .groups) (sym (r .depth) ∙ e) in

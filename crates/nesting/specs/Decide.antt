@@ -1,5 +1,5 @@
--- What a line comes to, from its directive and what its text says: the open groups after it and its mark, or a refusal (document 01,
--- "Lines and directives"). The text itself is not here.
+-- The outcome of a line, from its directive and its condition: the open groups after it and its mark, or a refusal (document 01, "Lines and
+-- directives").
 use Prim.Native.Nat.{ℕ}
 use mathlib.Core.Bool.{true, false}
 use mathlib.Core.List.{List, [], _∷_}
@@ -19,11 +19,11 @@ use Rattle.ruling.specs.declared.GroupState.the-variants.{Skipped, Pending, Act
 use Rattle.ruling.specs.declared.Transition.{Transition}
 use Rattle.ruling.specs.declared.Transition.the-variants.{Stay, Switch, Else, Pop, Refuse}
 
--- the most groups that may be open
+-- the largest number of open groups
 abbrev pub MAX-GROUPS : ℕ
 MAX-GROUPS = 16
 
--- the open groups and how many operators were applied so far
+-- the open groups and the number of operators that were applied so far
 pub record State : Type 0 where
   pub groups : List Group
   pub count : ℕ
@@ -36,7 +36,7 @@ pub data Outcome : Type 0 where
   go : (mark : ℕ) → State → Outcome
   stop : ℕ → Outcome
 
--- the innermost group changed
+-- the open groups with the innermost one changed
 abbrev pub switchTo : GroupState → List Group → List Group
 switchTo s [] = []
 switchTo s (group w b n ∷ gs) = group s b n ∷ gs
@@ -49,7 +49,7 @@ abbrev pub pop : List Group → List Group
 pop [] = []
 pop (g ∷ gs) = gs
 
--- a ruling on the innermost group
+-- a transition applied to the innermost group
 abbrev pub applied : Transition → (count : ℕ) → List Group → Outcome
 applied (Stay m) k gs = go m (state gs k)
 applied (Switch m s) k gs = go m (state (switchTo s gs) k)
@@ -61,13 +61,13 @@ applied (Refuse r) k gs = stop r
 abbrev pub opened : (mark : ℕ) → GroupState → (line count : ℕ) → List Group → Outcome
 opened m s n k gs = go m (state (group s false n ∷ gs) k)
 
--- where it is read, by what its condition says
+-- one that is read, by its condition
 abbrev pub openedBy : Condition → (line count : ℕ) → List Group → Outcome
 openedBy (Holds c) n k gs = opened TAKEN Active n k gs
 openedBy (Fails c) n k gs = opened NOT-TAKEN Pending n k gs
 openedBy (Refused r) n k gs = stop r
 
--- `!if`, `!ifdef` and `!ifndef`: no more than 16 groups are open, live or not
+-- `!if`, `!ifdef` and `!ifndef`: at most 16 groups are open, skipped ones included
 unfoldable pub opening : Condition → (line count : ℕ) → List Group → Outcome
 opening c n k gs = pick (leb MAX-GROUPS (length gs)) (stop NESTING-DEEP) (pick (isActive (stateOf gs)) (openedBy c n k gs) (opened UNREAD Skipped n k gs))
 
@@ -75,7 +75,7 @@ opening c n k gs = pick (leb MAX-GROUPS (length gs)) (stop NESTING-DEEP) (pick (
 abbrev pub plain : (count : ℕ) → List Group → Outcome
 plain k gs = go (pick (isActive (stateOf gs)) KEPT DROPPED) (state gs k)
 
--- line n with its directive, what its text says where it is read, and the operators applied up to it
+-- line n, with its directive, its condition if it is read, and the number of operators applied up to it
 unfoldable pub decided : Directive → Condition → (line count : ℕ) → List Group → Outcome
 decided Plain c n k gs = plain k gs
 decided If c n k gs = opening c n k gs

@@ -5,11 +5,11 @@ use mathlib.Core.List.{List, [], _∷_}
 use Rattle.ruling.specs.declared.GroupState.{GroupState}
 use Rattle.ruling.specs.declared.GroupState.the-variants.{NoGroup}
 
--- a group from its `!if` to its `!endif`: how it stands, whether its `!else` was met, and the line of its `!if`
+-- an open group: its state, whether its `!else` was seen, and the line of its `!if`
 pub data Group : Type 0 where
-  group : GroupState → (closed : Bool) → (line : ℕ) → Group
+  group : GroupState → (elseSeen : Bool) → (line : ℕ) → Group
 
--- of the innermost group
+-- the state of the innermost group, and whether its `!else` was seen
 abbrev pub stateOf : List Group → GroupState
 stateOf [] = NoGroup
 stateOf (group s b n ∷ gs) = s

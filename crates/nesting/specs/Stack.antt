@@ -1,5 +1,5 @@
--- How the code holds the open groups: how they stand as the digits of a number, the innermost group's the lowest, and their lines in an
--- array of 16 entries, the outermost group first. Contracts between layers cite this; no promise about a selection does.
+-- How the code represents the open groups: their states as the digits of a number, with the innermost group as the lowest digit, and their
+-- lines in an array of 16 entries, the outermost group first. Contracts between layers cite this; no promise about a selection does.
 use Prim.Native.Nat.{ℕ, _+_, _*_, _%_, _≤_}
 use mathlib.Core.Path.{_≡_}
 use mathlib.Core.Bool.{Bool, true, false}
@@ -14,7 +14,7 @@ use Rattle.ruling.specs.declared.GroupState.the-variants.{NoGroup, Skipped, Pen
 use Rattle.nesting.specs.declared.Selection.{Selection}
 use Rattle.nesting.specs.declared.Step.{Step}
 
--- how a group stands, as a number below 8
+-- a state as a number below 8
 abbrev pub stateNumber : GroupState → ℕ
 stateNumber NoGroup = 4
 stateNumber Skipped = 0
@@ -22,11 +22,11 @@ stateNumber Pending = 1
 stateNumber Active = 2
 stateNumber Done = 3
 
--- with 8 more where its `!else` was met
+-- the digit of a group: 8 is added if its `!else` was seen
 abbrev pub entryOf : GroupState → Bool → ℕ
 entryOf s b = stateNumber s + pick b 8 0
 
--- and back
+-- the state in a digit
 unfoldable pub stateIn : ℕ → GroupState
 stateIn e =
     pick (eqb (e % 8) 0) Skipped
@@ -40,12 +40,12 @@ abbrev pub packed : List Group → ℕ
 packed [] = 0
 packed (group s b n ∷ gs) = packed gs * 16 + entryOf s b
 
--- every open group has its line
+-- the array has the line of every open group
 abbrev pub Lined : List Group → (lines : List ℕ) → Type 0
 Lined [] ls = Unit
 Lined (group s b n ∷ gs) ls = (getD ls (length gs) 0 ≡ n) × Lined gs ls
 
--- the code's selection is this state
+-- the selection x of the code represents this state
 pub record Represents (x : Selection) (s : State) : Type 0 where
   pub depth : x .depth ≡ length (s .groups)
   pub shallow : length (s .groups) ≤ MAX-GROUPS
@@ -54,7 +54,7 @@ pub record Represents (x : Selection) (s : State) : Type 0 where
   pub lined : Lined (s .groups) (x .lines)
   pub lines-long : length (x .lines) ≡ 16
 
--- the code's step from a selection x is this outcome; a refusal leaves the selection
+-- the step of the code from a selection x has this outcome; a refusal returns x
 abbrev pub Meets : (x : Selection) → Step → Outcome → Type 0
 Meets x z (go m s) = (z .ok ≡ true) × (z .mark ≡ m) × Represents (z .next) s × (z .number ≡ 0)
 Meets x z (stop r) = (z .ok ≡ false) × (z .number ≡ r) × (z .mark ≡ 0) × (z .next ≡ x)

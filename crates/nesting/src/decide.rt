@@ -1,4 +1,4 @@
-// What a line comes to, from its directive and what its text says.
+// The outcome of a line, from its directive and its condition.
 use crate::Selection;
 use crate::Step;
 use crate::stack;
@@ -11,7 +11,7 @@ ghost use Rattle.nesting.specs.Decide.{State, plain as plainOf, opening,
 ghost use Rattle.nesting.specs.Stack.{Represents, Meets};
 ghost use Rattle.line.specs.declared.Condition.the-variants.{Fails};
 
-// A new group in line n: 20 before anything its text says.
+// A new group in line n. 20 comes before any refusal of its condition.
 fn open_group(c: Condition, n: LineNumber, x: Selection) -> Step
     requires { ⌜ (x .depth ≤ 16) × (n .0 < 65536) ⌝ }
     ensures { λ z. ⌜ ((t : State) → Represents x t → Meets x z (opening c (n .0) (t .count) (t .groups))) ⌝ }
@@ -47,7 +47,7 @@ fn plain(x: Selection) -> Step
     stack::accepted(ruling::DROPPED, x)
 }
 
-// Line n with its directive and what its text says.
+// Line n with its directive and its condition.
 pub fn decide(d: Directive, c: Condition, n: LineNumber, x: Selection) -> Step
     requires { ⌜ (x .depth ≤ 16) × (n .0 < 65536) ⌝ }
     ensures { λ z. ⌜ ((t : State) → Represents x t → Meets x z (decided d c (n .0) (t .count) (t .groups))) ⌝ }
@@ -70,7 +70,7 @@ pub fn decide(d: Directive, c: Condition, n: LineNumber, x: Selection) -> Step
     }
 }
 
-// Line n where it is not read. Most such lines are plain and leave the selection as it is, so these need no more than their mark.
+// Line n, which is not read. Most such lines are plain and do not change the selection, so these need no more than their mark.
 pub fn unread(d: Directive, n: LineNumber, x: Selection) -> Step
     requires { ⌜ (x .depth ≤ 16) × (n .0 < 65536) ⌝ }
     ensures { λ z. ⌜ ((t : State) → Represents x t → Meets x z (decided d (Fails 0) (n .0) (t .count) (t .groups))) ⌝ }

@@ -1,11 +1,11 @@
-// The open groups of a selection, and what a line makes of them.
+// The open groups of a selection, and the outcome of a line.
 pub mod decide;
 pub mod stack;
 
-// A running selection: how many groups are open, the operators applied so far, and of each open group how it stands and the line of its
-// `!if`. How they stand are the digits of one number in base 16, the innermost group's the lowest: a selection is copied at each step, and
-// a number is copied and changed in a register where an array would go through memory. Of the lines, the outermost group's is the first,
-// and those from `depth` on mean nothing.
+// A running selection: the number of open groups, the number of operators applied so far, and for each open group its state and the line of
+// its `!if`. The states are the digits of one number in base 16, with the innermost group as the lowest digit: a selection is copied at
+// each step, and a number stays in a register, while an array goes through memory. The first line is that of the outermost group; lines
+// from `depth` on have no meaning.
 pub struct Selection {
     pub depth: usize,
     pub count: usize,
@@ -13,7 +13,7 @@ pub struct Selection {
     pub lines: [u16; 16],
 }
 
-// What a line comes to: its mark and the selection after it, or the number of the refusal, and then the selection as it was and the mark 0.
+// The outcome of a line: its mark and the selection after it; or the number of the refusal, the selection before it and the mark 0.
 pub struct Step {
     // first, so that it is copied as a whole
     pub next: Selection,

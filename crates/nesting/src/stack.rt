@@ -25,12 +25,12 @@ fn number_of(s: GroupState) -> u64
     }
 }
 
-fn entry(s: GroupState, closed: bool) -> u64
-    ensures { λ r. ⌜ r ≡ entryOf s closed ⌝ }
+fn entry(s: GroupState, else_seen: bool) -> u64
+    ensures { λ r. ⌜ r ≡ entryOf s «else_seen» ⌝ }
     ensures { λ r. ⌜ r < 16 ⌝ }
 {
     let n = number_of(s);
-    if closed { n + 8 } else { n }
+    if else_seen { n + 8 } else { n }
 }
 
 fn state_in(entry: u64) -> GroupState
@@ -46,7 +46,7 @@ fn state_in(entry: u64) -> GroupState
     }
 }
 
-// How the innermost group stands.
+// The state of the innermost group.
 pub fn group_state(x: Selection) -> GroupState
     requires { ⌜ x .depth ≤ 16 ⌝ }
     ensures { λ r. ⌜ ((s : State) → Represents x s → r ≡ stateOf (s .groups)) ⌝ }
@@ -58,7 +58,7 @@ pub fn group_state(x: Selection) -> GroupState
     state_in(x.states % 16)
 }
 
-// Whether its `!else` was met.
+// Whether the `!else` of the innermost group was seen.
 pub fn has_else(x: Selection) -> bool
     requires { ⌜ x .depth ≤ 16 ⌝ }
     ensures { λ r. ⌜ ((s : State) → Represents x s → r ≡ elseSeenOf (s .groups)) ⌝ }
@@ -70,7 +70,7 @@ pub fn has_else(x: Selection) -> bool
     8 <= x.states % 16
 }
 
-// 16^15: what 15 open groups have as their digits is below it.
+// 16^15: the states of 15 open groups are a number below it.
 const BELOW_TOP: u64 = 1152921504606846976;
 
 // A group opened in a line.
@@ -94,9 +94,9 @@ fn set_state(x: Selection, s: GroupState) -> Selection
     if n == 0 {
         return x;
     }
-    let closed = has_else(x);
+    let else_seen = has_else(x);
     let mut y = x;
-    y.states = x.states / 16 * 16 + entry(s, closed);
+    y.states = x.states / 16 * 16 + entry(s, else_seen);
     y
 }
 
@@ -126,7 +126,7 @@ fn pop(x: Selection) -> Selection
     y
 }
 
-// A line that is marked so, with the selection after it.
+// A line with its mark and the selection after it.
 pub fn accepted(mark: u8, next: Selection) -> Step
     ensures { λ r. ⌜ ((x : Selection) (t : State) → Represents next t → Meets x r (go mark t)) ⌝ }
 {
@@ -150,7 +150,7 @@ pub fn refused(number: u8, x: Selection) -> Step
     }
 }
 
-// A ruling on the innermost group.
+// A transition of the innermost group.
 pub fn apply(r: Transition, x: Selection) -> Step
     requires { ⌜ x .depth ≤ 16 ⌝ }
     ensures { λ z. ⌜ ((t : State) → Represents x t → Meets x z (applied r (t .count) (t .groups))) ⌝ }

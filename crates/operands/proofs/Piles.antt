@@ -1,4 +1,4 @@
--- Operands as they are stored and found: how a pile grows, and what its latest operands are.
+-- Operands as they are stored and loaded: how the stack grows, and its top operands.
 use Prim.Native.Nat.{ℕ, zero, suc, _-_, _≤_, _<_}
 use native.Mathlib.Numerals.{add-one}
 use native.Mathlib.Omega.{arith}
@@ -43,7 +43,7 @@ module _ (e t : List ℕ) where
   pile-some w zero a r q = let z : _≡_ {A = ℕ} 0 1 = cc in absurd (omega arith)
   pile-some w (suc h) a r q = omega arith
 
-  -- the latest operand
+  -- the top operand
   pub latest : (w : List (List ℕ)) (h : ℕ) (a : Attributes) (r : List Attributes) → piled e t w h ≡ a ∷ r
       → (0 < h) × (a ≡ operandAt e t w (h - 1)) × (r ≡ piled e t w (h - 1))
   latest w h a r q =
@@ -58,6 +58,6 @@ module _ (e t : List ℕ) where
       let l : h - 1 ≡ 0 = sym (pile-length w (h - 1)) ∙ ap length (sym (p .2)) in
       (p .0, sym (rw l at (p .1)))
 
--- what is left, by another name
+-- the same operand in another form
 pub instead : {e t : List ℕ} {w : List (List ℕ)} {at : ℕ} {a b : Attributes} {w′ : List (List ℕ)} → a ≡ b → Leaves e t w at a w′ → Leaves e t w at b w′
 instead {e} {t} {w} {at} {a} {b} {w′} q l = subst (λ (x : Attributes). Leaves e t w at x w′) q l

@@ -1,4 +1,4 @@
--- An operand as seven numbers. A contract between layers cites this, no promise does.
+-- An operand as seven numbers. Contracts between layers cite this; no promise does.
 use Prim.Native.Nat.{ℕ}
 use mathlib.Core.List.{List}
 use lib.ListN.{getD}
@@ -15,7 +15,7 @@ use Rattle.operands.specs.declared.numbers.Shaped.{Shaped}
 abbrev pub kindIn : ℕ → Kind
 kindIn n = pick (eqb n 0) NumberKind (pick (eqb n 1) StringKind (pick (eqb n 2) WideKind Clash))
 
--- where a string stands
+-- the place of a string
 abbrev pub placeIn : Shaped → Place
 placeIn s = record { tabled = s .tabled; start = record { 0 = s .first }; len = s .len }
 
@@ -26,7 +26,7 @@ valueIn s =
     (pick (eqb (s .shape) 1) (String (placeIn s))
     (pick (eqb (s .shape) 2) (Wide (placeIn s)) (Fault (pick (ltb (s .first) 256) (s .first) 0))))
 
--- kind, shape, number or start, length, whether in the table, count of operators, whether a PCD is missing
+-- kind, shape, number or start, length, whether in the table, number of operators, whether a PCD is missing
 abbrev pub operandIn : List ℕ → CodedAttributes
 operandIn w =
     record {

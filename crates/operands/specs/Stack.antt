@@ -1,4 +1,4 @@
--- The operands that wait for their operator. Contracts between layers cite this, no promise does.
+-- The stack of operands that wait for their operator. Contracts between layers cite this; no promise does.
 use Prim.Native.Nat.{ℕ, zero, suc, _+_}
 use mathlib.Core.Path.{_≡_}
 use mathlib.Core.List.{List, [], _∷_}

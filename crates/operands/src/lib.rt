@@ -1,3 +1,3 @@
-// The operands that wait for their operator, in memory that is lent.
+// The operands that wait for their operator, in lent memory.
 pub mod numbers;
 pub mod stack;

@@ -9,7 +9,7 @@ ghost use lib.Dec.{eqb, ltb};
 ghost use Rattle.text.specs.Bytes.{pick};
 ghost use Rattle.operands.specs.Numbers.{kindIn, valueIn, operandIn};
 
-// The numbers of a value: its shape, the number or where the string starts, the string's length, and whether it stands in the table.
+// The numbers of a value: its shape, its number or the start of its string, the string's length, and whether the string is in the table.
 pub struct Shaped {
     pub shape: usize,
     pub first: usize,
@@ -79,7 +79,7 @@ fn shape_of(v: Value) -> Shaped
     }
 }
 
-// The number of a refusal: below 256 wherever a fault was stored.
+// The number of a refusal. It is below 256 if a fault was stored.
 fn fault_in(n: usize) -> u8
     ensures { λ r. ⌜ r ≡ pick (ltb n 256) n 0 ⌝ }
 {

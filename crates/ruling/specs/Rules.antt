@@ -1,5 +1,5 @@
--- What the directives inside a group make of it (document 01, "Lines and directives" and "Refusal numbers"), with the line's mark. The
--- condition is what the text after the word says; it matters only where the directive is read.
+-- The transition that a directive inside a group makes (document 01, "Lines and directives" and "Refusal numbers"), with the mark of its
+-- line. Its condition has an effect only if the directive is read.
 use Prim.Native.Nat.{ℕ}
 use mathlib.Core.Bool.{Bool}
 use Rattle.units.specs.Refusals.{DIRECTIVE-STRAY}
@@ -31,7 +31,7 @@ TAKEN = 4
 abbrev pub ENDED : ℕ
 ENDED = 5
 
--- a text that is wrong is refused
+-- a transition, unless the condition is refused
 abbrev pub unless : Condition → Transition → Transition
 unless (Holds n) r = r
 unless (Fails n) r = r
@@ -43,7 +43,7 @@ afterElseif (Holds n) = Switch TAKEN Active
 afterElseif (Fails n) = Stay NOT-TAKEN
 afterElseif (Refused k) = Refuse k
 
--- an `!elseif` by how its group stands, which has to be open
+-- an `!elseif`, by the state of its group; without a group it is stray
 abbrev pub elseifIn : Condition → GroupState → Transition
 elseifIn c NoGroup = Refuse DIRECTIVE-STRAY
 elseifIn c Skipped = Stay UNREAD
@@ -51,9 +51,9 @@ elseifIn c Pending = afterElseif c
 elseifIn c Active = Switch UNREAD Done
 elseifIn c Done = Stay UNREAD
 
--- and whose `!else` was not met
-unfoldable pub elseifTransition : Condition → GroupState → (closed : Bool) → Transition
-elseifTransition c s closed = pick closed (Refuse DIRECTIVE-STRAY) (elseifIn c s)
+-- it is stray too if the `!else` of its group was seen
+unfoldable pub elseifTransition : Condition → GroupState → (elseSeen : Bool) → Transition
+elseifTransition c s elseSeen = pick elseSeen (Refuse DIRECTIVE-STRAY) (elseifIn c s)
 
 -- an `!else`, likewise
 abbrev pub elseIn : Condition → GroupState → Transition
@@ -64,10 +64,10 @@ elseIn c Active = unless c (Else NOT-TAKEN Done)
 elseIn c Done = unless c (Else NOT-TAKEN Done)
 
 -- a second one is stray too
-unfoldable pub elseTransition : Condition → GroupState → (closed : Bool) → Transition
-elseTransition c s closed = pick closed (Refuse DIRECTIVE-STRAY) (elseIn c s)
+unfoldable pub elseTransition : Condition → GroupState → (elseSeen : Bool) → Transition
+elseTransition c s elseSeen = pick elseSeen (Refuse DIRECTIVE-STRAY) (elseIn c s)
 
--- an `!endif` needs an open group
+-- an `!endif`; without a group it is stray
 unfoldable pub endTransition : Condition → GroupState → Transition
 endTransition c NoGroup = Refuse DIRECTIVE-STRAY
 endTransition c Skipped = Pop UNREAD

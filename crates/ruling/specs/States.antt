@@ -1,4 +1,4 @@
--- Which directives are read (document 01, "Lines and directives"), by how the innermost group stands.
+-- Which directives are read (document 01, "Lines and directives"), by the state of the innermost group.
 use mathlib.Core.Bool.{Bool, true, false}
 use Rattle.line.specs.declared.Directive.{Directive}
 use Rattle.line.specs.declared.Directive.the-variants.{Plain, If, Ifdef, Ifndef, Elseif, Else, Endif, Unknown}

@@ -1,25 +1,25 @@
-// Which directives are read, and what those inside a group make of it.
+// Which directives are read, and the transition of the innermost group that each directive makes.
 use line::Condition;
 use line::Directive;
 ghost use mathlib.Core.Path.{_≡_};
 ghost use Rattle.ruling.specs.States.{isActive, isEnclosedLive, isPending, reads as readsOf};
 ghost use Rattle.ruling.specs.Rules.{unless as unlessOf, afterElseif, elseifTransition, elseTransition, endTransition};
 
-// How an open group stands, or that none is open.
+// The state of the innermost group, or that none is open.
 pub enum GroupState {
     // no group is open
     NoGroup,
     // the branch around the group is not taken
     Skipped,
-    // it is, and no branch of the group was taken so far
+    // the branch around the group is taken, and no branch of the group was taken so far
     Pending,
-    // the present branch is taken
+    // the current branch is taken
     Active,
     // an earlier branch was taken
     Done,
 }
 
-// What a line makes of the innermost group, with the line's mark, or the number of the refusal.
+// The transition of the innermost group at a line, with the mark of the line, or the number of the refusal.
 pub enum Transition {
     Stay(u8),
     Switch(u8, GroupState),
@@ -78,7 +78,7 @@ fn is_pending(s: GroupState) -> bool
     }
 }
 
-// Whether a directive is read where the innermost group stands so.
+// Whether a directive is read if the innermost group has this state.
 pub fn reads(d: Directive, s: GroupState) -> bool
     ensures { λ r. ⌜ r ≡ readsOf d s ⌝ }
 {
@@ -94,7 +94,7 @@ pub fn reads(d: Directive, s: GroupState) -> bool
     }
 }
 
-// A ruling, unless the text is wrong.
+// A transition, unless the condition is refused.
 fn unless(c: Condition, r: Transition) -> Transition
     ensures { λ z. ⌜ z ≡ unlessOf c r ⌝ }
 {
@@ -115,10 +115,10 @@ fn after_elseif(c: Condition) -> Transition
     }
 }
 
-pub fn elseif_transition(c: Condition, s: GroupState, closed: bool) -> Transition
-    ensures { λ r. ⌜ r ≡ elseifTransition c s closed ⌝ }
+pub fn elseif_transition(c: Condition, s: GroupState, else_seen: bool) -> Transition
+    ensures { λ r. ⌜ r ≡ elseifTransition c s «else_seen» ⌝ }
 {
-    if closed {
+    if else_seen {
         return Transition::Refuse(units::DIRECTIVE_STRAY);
     }
     match s {
@@ -130,10 +130,10 @@ pub fn elseif_transition(c: Condition, s: GroupState, closed: bool) -> Transitio
     }
 }
 
-pub fn else_transition(c: Condition, s: GroupState, closed: bool) -> Transition
-    ensures { λ r. ⌜ r ≡ elseTransition c s closed ⌝ }
+pub fn else_transition(c: Condition, s: GroupState, else_seen: bool) -> Transition
+    ensures { λ r. ⌜ r ≡ elseTransition c s «else_seen» ⌝ }
 {
-    if closed {
+    if else_seen {
         return Transition::Refuse(units::DIRECTIVE_STRAY);
     }
     match s {

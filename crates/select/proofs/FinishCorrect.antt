@@ -1,4 +1,4 @@
--- The answer after the last line, from the selection's arrays. Assumes nothing.
+-- The answer after the last line, from the arrays of the selection. Assumes nothing.
 use Prim.Native.Nat.{ℕ, _-_}
 use native.Mathlib.Omega.{arith}
 use mathlib.Core.Path.{_≡_, refl, ap, _∙_}

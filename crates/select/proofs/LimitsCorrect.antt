@@ -1,4 +1,4 @@
--- What is asked before any line: the first test that fails is the refusal. Assumes nothing.
+-- The checks before any line: the first check that fails is the refusal. Assumes nothing.
 use Prim.Native.Nat.{ℕ, _≤_, _<_}
 use native.Mathlib.Omega.{arith}
 use mathlib.Core.Path.{_≡_, refl}
@@ -49,7 +49,7 @@ module _ (f t : List ℕ) (room : ℕ) where
 pub never : (A : Type 0) (k n : ℕ) (ms : List ℕ) (c : ℕ) → refused k n ≡ accepted ms c → A
 never A k n ms c e = let z : _≡_ {A = ℕ} 0 1 = cc in absurd (omega arith)
 
--- an accepted selection passed every test before its lines
+-- an accepted selection passed every check before its lines
 pub accepted-runs : (f t : List ℕ) (room : ℕ) (ms : List ℕ) (c : ℕ) → selection f t room ≡ accepted ms c
     → (run t 1 start (lines f) ≡ accepted ms c) × (length (lines f) ≤ 4096)
 unfolding selection

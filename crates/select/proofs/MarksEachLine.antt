@@ -7,10 +7,10 @@ use Rattle.line.specs.Lines.{lines}
 use Rattle.nesting.specs.Groups.{Group, group}
 use Rattle.nesting.specs.Decide.{State, Outcome, go, stop}
 use Rattle.select.specs.Step.{step}
-use Rattle.select.specs.Select.{Result, accepted, refused, prepend, atEnd, after, run, start, MarksEachLine}
+use Rattle.select.specs.Select.{Result, accepted, refused, prepend, atEnd, after, run, start, selection}
 use Rattle.select.proofs.LimitsCorrect.{accepted-runs}
 
--- as many as there are lines, if there are any
+-- a result has n marks, if it is accepted
 abbrev Many : ℕ → Result → Type 0
 Many n (accepted ms c) = length ms ≡ n
 Many n (refused k l) = Unit
@@ -32,5 +32,5 @@ unfolding run
 many t n s [] = many-end (s .groups) (s .count)
 many t n s (l ∷ ls) = many-after (step t n s l) n (length ls) (λ s′. run t (n + 1) s′ ls) (λ s′. many t (n + 1) s′ ls)
 
-pub marks-each-line : MarksEachLine
+pub marks-each-line : (f t : List ℕ) (room : ℕ) (ms : List ℕ) (c : ℕ) → selection f t room ≡ accepted ms c → length ms ≡ length (lines f)
 marks-each-line f t room ms c h = rw (accepted-runs f t room ms c h .0) at (many t 1 start (lines f))

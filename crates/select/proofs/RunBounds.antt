@@ -1,4 +1,4 @@
--- The first and the last turn of a run, over plain values. Assumes nothing.
+-- The first and the last turn of a run. Assumes nothing.
 use Prim.Native.Nat.{ℕ}
 use native.Mathlib.Omega.{arith}
 use mathlib.Core.Path.{_≡_, refl, sym, _∙_}

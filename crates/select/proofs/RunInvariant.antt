@@ -1,5 +1,5 @@
--- A run underway: the marks of the lines so far stand in front of what comes of the other lines, from the state that was reached. A turn
--- of the loop takes one line off. Assumes nothing.
+-- The invariant of a run: its result is the marks of the lines so far, followed by the result of the other lines from the current state. A
+-- turn of the loop takes one line. Assumes nothing.
 use Prim.Native.Nat.{ℕ, _+_, _-_, _*_, _^_, _≤_, _<_}
 use native.Mathlib.Omega.{arith}
 use native.Mathlib.Numerals.{add-one}
@@ -24,7 +24,7 @@ use Rattle.select.specs.Running.{ends, Runs, MarksPlain}
 use Rattle.select.specs.declared.Answer.{Answer}
 use Rattle.select.proofs.Steps.{step-small, plain-step}
 
--- the marks of the lines so far in front of what comes of the others
+-- the marks of the lines so far before the result of the others
 unfoldable pub prepended : List ℕ → Result → Result
 prepended [] r = r
 prepended (m ∷ ms) r = prepend m (prepended ms r)
@@ -92,7 +92,7 @@ module _ {f t marks₀ : List ℕ} {x : Selection} {at n : ℕ} {marks : List �
     unfolding run
     one-more = rw (cut .first)
 
-    -- what its step comes to
+    -- the outcome of its step
     module _ (z : Step) (meets : Meets x z (step t (n + 1) (u .reached) line)) where
       pub stops : z .ok ≡ false → run t 1 start (lines f) ≡ refused (z .number) (n + 1)
       stops h = u .goes ∙ ap (prepended (u .done)) one-more ∙ by (step t (n + 1) (u .reached) line) meets
@@ -129,7 +129,7 @@ module _ {f t marks₀ : List ℕ} {x : Selection} {at n : ℕ} {marks : List �
                   counted = omega (arith, step-small t (n + 1) (u .reached) line m s q, u .counted);
                 }
 
-    -- a plain line that is not too long needs no step: it leaves the selection, and its mark is that of plain lines there
+    -- a plain line that is not too long needs no step: it does not change the selection, and its mark is that of plain lines in this state
     pub passes-plain : (mark : ℕ) → MarksPlain x mark → r .end .0 - at ≤ 1024 → directiveOf line ≡ Plain
         → length (lines f) ≤ length marks₀ → Underway f t marks₀ x (r .after .0) (n + 1) (set marks n mark)
     passes-plain mark kept short plain room =
@@ -139,7 +139,7 @@ module _ {f t marks₀ : List ℕ} {x : Selection} {at n : ℕ} {marks : List �
         (rw (plain-step t (n + 1) (u .reached) line few plain) (refl, kept (u .reached) (u .represents), u .represents, refl))
         room refl
 
-  -- no line is left
+  -- after the last line
   module _ (over : length f ≤ at) where
     no-lines : lines (drop at f) ≡ []
     unfolding lines

@@ -1,5 +1,5 @@
--- A step by its cases: a line that is too long, a directive that is not read, one that is read; and how much a step counts at most.
--- Assumes nothing.
+-- A step by its cases: a line that is too long, a directive that is not read, one that is read; and a bound on the count of a step. Assumes
+-- nothing.
 use Prim.Native.Nat.{ℕ, _+_, _≤_, _<_}
 use native.Mathlib.Omega.{arith}
 use native.Mathlib.Nat.{add-zero}
@@ -36,7 +36,7 @@ unfolding reads
 other-read d v h e = let k : false ≡ true = rw e at h in false≢true k
 
 module _ (t : List ℕ) (n : ℕ) (s : State) (l : List ℕ) where
-  -- whether a line is read, by what the code knows of its head and of the innermost group
+  -- whether a line is read, by its head and the state of the innermost group in the code
   pub read-as : (d : Directive) (v : GroupState) (b : Bool) → d ≡ directiveOf l → v ≡ stateOf (s .groups) → reads d v ≡ b
       → reads (directiveOf l) (stateOf (s .groups)) ≡ b
   read-as d v b e k h = rw (← e, ← k) h
@@ -55,7 +55,7 @@ module _ (t : List ℕ) (n : ℕ) (s : State) (l : List ℕ) where
   unfolding readCondition
   unread-step h r = decided-step h ∙ rw (r, add-zero (s .count))
 
-  -- a plain line leaves the state
+  -- a plain line does not change the state
   pub plain-step : length l ≤ 1024 → directiveOf l ≡ Plain → step t n s l ≡ go (pick (isActive (stateOf (s .groups))) KEPT DROPPED) s
   unfolding decided reads
   plain-step h e = unread-step h (rw e) ∙ rw e
@@ -72,7 +72,7 @@ module _ (t : List ℕ) (n : ℕ) (s : State) (l : List ℕ) where
       pick-case (λ (c : Condition). countOf c < 200) (reads (directiveOf l) (stateOf (s .groups)))
       (λ _. count-small t (directiveOf l) (textOf l)) (λ _. omega arith)
 
-  -- a step's count, if it has one
+  -- the count of a step, if it has one
   Small : Outcome → Type 0
   Small (go m s′) = s′ .count < s .count + 200
   Small (stop r) = Unit
@@ -94,7 +94,7 @@ module _ (t : List ℕ) (n : ℕ) (s : State) (l : List ℕ) where
   unfolding Small
   step-small m s′ e = rw e at step-is-small
 
--- a step from another selection of the same groups, where it went on and where it was refused
+-- a step from another selection of the same groups, accepted or refused
 module _ (x y : Selection) (z : Step) where
   pub went-on : (o : Outcome) → Meets y z o → z .ok ≡ true → Meets x z o
   went-on (go m s) h e = h

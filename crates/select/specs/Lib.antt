@@ -1,4 +1,3 @@
 pub mod Step
 pub mod Select
 pub mod Running
-pub mod Examples

@@ -1,6 +1,6 @@
--- A selection (document 01, "Lines and directives"): a mark for each line and the sum of the counts of operators, or a refusal with its
--- line. Before any line come 1, 14, 15 and 16, whose line is 0; behind the last one comes 21, whose line is that of the group which was
--- opened last and never ended.
+-- The selection of a file (document 01, "Lines and directives"): a mark for each line and the sum of the counts of operators, or a refusal
+-- with its line. 1, 14, 15 and 16 come before any line and have line 0; 21 comes after the last line and has the line of the innermost open
+-- `!if`.
 use Prim.Native.Nat.{ℕ, _+_}
 use mathlib.Core.Path.{_≡_}
 use mathlib.Core.List.{List, [], _∷_, _++_}
@@ -16,7 +16,7 @@ use Rattle.select.specs.Step.{step}
 use Rattle.select.specs.declared.Answer.{Answer}
 use Rattle.select.specs.declared.Answer.the-variants.{Accepted, Refused}
 
--- the most bytes and the most lines of a file
+-- the largest number of bytes and of lines in a file
 abbrev pub MAX-FILE : ℕ
 MAX-FILE = 65536
 
@@ -38,7 +38,7 @@ abbrev pub atEnd : List Group → (count : ℕ) → Result
 atEnd [] c = accepted [] c
 atEnd (group s b n ∷ gs) c = refused FILE-UNFINISHED n
 
--- what line n came to, and then the lines after it
+-- the outcome of line n, and then the lines after it
 abbrev pub after : Outcome → (n : ℕ) → (State → Result) → Result
 after (go m s) n rest = prepend m (rest s)
 after (stop k) n rest = refused k n
@@ -52,7 +52,7 @@ run t n s (l ∷ ls) = after (step t n s l) n (λ s′. run t (n + 1) s′ ls)
 abbrev pub start : State
 start = state [] 0
 
--- the selection over a file f and a table t, with room for so many marks
+-- the selection of a file f over a table t, with room for this many marks
 unfoldable pub selection : (f t : List ℕ) → (room : ℕ) → Result
 selection f t room =
     pick (wellFormed t)
@@ -67,8 +67,8 @@ abbrev pub answerOf : Result → Answer
 answerOf (accepted ms c) = Accepted (record { 0 = length ms }) c
 answerOf (refused k n) = Refused (record { number = k; line = record { 0 = n } })
 
--- What document 01 says of each case. A refusal has its number and line, no lines and a count of 0; an accepted selection has no refusal
--- number and no line, for which 0 stands.
+-- The parts of an answer (document 01). A refusal has its number and line, no lines and a count of 0; an accepted selection has 0 for the
+-- refusal number and for the line.
 abbrev pub refusalNumber : Answer → ℕ
 refusalNumber (Accepted l c) = 0
 refusalNumber (Refused r) = r .number
@@ -85,16 +85,12 @@ abbrev pub countOf : Answer → ℕ
 countOf (Accepted l c) = c
 countOf (Refused r) = 0
 
--- the lent marks afterwards: those past the last line stay; a refusal leaves every one of them 255
+-- the lent marks after the call: marks past the last line keep their values; after a refusal every mark is 255
 abbrev pub marksOf : (lent : List ℕ) → Result → List ℕ
 marksOf m (accepted ms c) = ms ++ drop (length ms) m
 marksOf m (refused k n) = replicate (length m) 255
 
--- an accepted selection has a mark for each line
-abbrev pub MarksEachLine : Type 0
-MarksEachLine = (f t : List ℕ) (room : ℕ) (ms : List ℕ) (c : ℕ) → selection f t room ≡ accepted ms c → length ms ≡ length (lines f)
-
--- what a call gives and leaves
+-- the answer of a call and the marks after it
 pub record Selects (f t marks : List ℕ) (r : Answer) (marks′ : List ℕ) : Type 0 where
   pub answer : r ≡ answerOf (selection f t (length marks))
   pub marks-are : marks′ ≡ marksOf marks (selection f t (length marks))

@@ -1,5 +1,5 @@
--- One line of a selection (document 01, "Lines and directives"): 17, then what its directive makes of the open groups. The text after the
--- word is looked at only where the directive is read; elsewhere nothing of it reaches the outcome.
+-- One line of a selection (document 01, "Lines and directives"): 17, then the outcome of its directive. The text after the word has an
+-- effect only if the directive is read.
 use Prim.Native.Nat.{ℕ, _+_}
 use mathlib.Core.List.{List}
 use lib.ListN.{length}
@@ -14,11 +14,11 @@ use Rattle.nesting.specs.Groups.{Group, stateOf}
 use Rattle.ruling.specs.States.{reads}
 use Rattle.nesting.specs.Decide.{State, Outcome, stop, decided}
 
--- the most bytes of a line, without its end
+-- the largest number of bytes in a line, without its end
 abbrev pub MAX-LINE : ℕ
 MAX-LINE = 1024
 
--- what the text of a line says over a table t, where its directive is read; elsewhere one thing that applies no operator
+-- the condition of a line over a table t if its directive is read; any other line gets a fixed condition that applies no operator
 unfoldable pub readCondition : (t : List ℕ) → List Group → List ℕ → Condition
 readCondition t gs l = pick (reads (directiveOf l) (stateOf gs)) (evaluate t (directiveOf l) (textOf l)) (Fails 0)
 

@@ -1,8 +1,8 @@
 // The selection of a file's lines.
-mod fill;
 mod run;
 pub mod selection;
 pub mod step;
+mod uniform;
 
 use units::LineNumber;
 use units::Refusal;

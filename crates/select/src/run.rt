@@ -36,7 +36,7 @@ pub fn refused(number: u8, line: LineNumber) -> Answer
     Answer::Refused(Refusal { number, line })
 }
 
-// The answer after the last of n lines: all groups are closed, or the innermost open one is at fault.
+// The answer after the last of n lines: the selection is accepted if no group is open, else refused at the innermost open `!if`.
 fn finish(x: Selection, n: LineNumber) -> Answer
     requires { ⌜ x .depth ≤ 16 ⌝ }
     ensures { λ r. ⌜ ((s : State) → Represents x s → r ≡ ends (n .0) (s .groups) (s .count)) ⌝ }
@@ -50,13 +50,13 @@ fn finish(x: Selection, n: LineNumber) -> Answer
     refused(units::FILE_UNFINISHED, LineNumber(line))
 }
 
-// Marks the lines of a file one after the other, up to the first that is refused.
+// Marks the lines of a file in order, up to the first that is refused.
 pub fn run<'a>(marks: &mut [u8], file: &'a [u8], table: &'a [u8]) -> Answer
     requires { ⌜ (wellFormed (now table) ≡ true) × (length (lines (now file)) ≤ length (now marks)) × (length (lines (now file)) ≤ 4096) ⌝ }
     ensures { λ r. ⌜ Runs (now (file .entry)) (now (table .entry)) (now (marks .entry)) r (now (marks .exit)) ⌝ }
 {
     let mut x = fresh();
-    // the mark that plain lines have now
+    // the mark of plain lines in the current state
     let mut mark = ruling::KEPT;
     let mut at = Offset(0);
     let mut n = LineNumber(0);

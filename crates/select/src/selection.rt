@@ -1,21 +1,21 @@
-// The whole selection: what is asked before any line, the run, and the marks of a refusal.
+// The whole selection: the checks before any line, the run, and the marks of a refusal.
 use crate::Answer;
-use crate::fill;
 use crate::run;
+use crate::uniform;
 use line::cut;
 use units::LineNumber;
 ghost use Rattle.select.specs.Select.{Selects};
 ghost use Rattle.select.specs.Running.{ChecksLimits};
 
-// The most bytes and the most lines of a file.
+// The largest number of bytes and of lines in a file.
 const MAX_FILE: usize = 65536;
 
 const MAX_LINES: usize = 4096;
 
-// What a refusal leaves in every mark.
+// The value of every mark after a refusal.
 const REFUSED: u8 = 255;
 
-// The refusals that belong to no line, 0 where there is none.
+// The number of the refusal before any line, 0 if there is none.
 fn check_limits<'a>(file: &'a [u8], table: &'a [u8], room: usize) -> u8
     ensures { λ r. ⌜ ChecksLimits (now (file .entry)) (now (table .entry)) room r ⌝ }
 {
@@ -41,14 +41,14 @@ pub fn select<'a>(marks: &mut [u8], file: &'a [u8], table: &'a [u8]) -> Answer
 {
     let number = check_limits(file, table, marks.len());
     if number != 0 {
-        fill::fill(marks, REFUSED);
+        uniform::fill(marks, REFUSED);
         return run::refused(number, LineNumber(0));
     }
     let r = run::run(marks, file, table);
     match r {
         Answer::Accepted(_, _) => r,
         Answer::Refused(_) => {
-            fill::fill(marks, REFUSED);
+            uniform::fill(marks, REFUSED);
             r
         }
     }

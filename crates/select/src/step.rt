@@ -20,10 +20,10 @@ ghost use Rattle.nesting.specs.Stack.{Represents, Meets};
 ghost use Rattle.select.specs.Step.{step as stepOf};
 ghost use Rattle.select.specs.Running.{MarksPlain};
 
-// The most bytes of a line without its end.
+// The largest number of bytes in a line, without its end.
 const MAX_LINE: usize = 1024;
 
-// The operators that a condition applied.
+// The number of operators that a condition applied.
 fn count_of(c: Condition) -> usize
     ensures { λ r. ⌜ r ≡ countOf c ⌝ }
 {
@@ -34,7 +34,7 @@ fn count_of(c: Condition) -> usize
     }
 }
 
-// A selection with these operators more.
+// A selection with this many more operators applied.
 fn counted(x: Selection, n: usize) -> Selection
     requires { ⌜ x .count + n < 2 ^ 64 ⌝ }
     ensures { λ r. ⌜ (r .depth ≡ x .depth) × ((s : State) → Represents x s → Represents r (state (s .groups) (s .count + n))) ⌝ }
@@ -44,7 +44,7 @@ fn counted(x: Selection, n: usize) -> Selection
     y
 }
 
-// Whether a line of this many bytes is plain and not too long: then it leaves the selection, and all that it needs is its mark.
+// Whether a line of this many bytes is plain and not too long: then it does not change the selection and needs only its mark.
 pub fn is_passed(d: Directive, len: usize) -> bool
     ensures { λ r. ⌜ (r ≡ true → (len ≤ 1024) × (d ≡ Plain)) ⌝ }
 {
@@ -85,6 +85,6 @@ pub fn step<'a>(table: &'a [u8], n: LineNumber, x: Selection, line: &'a [u8], he
     if ok {
         return z;
     }
-    // a refusal leaves the count too
+    // a refusal does not change the count either
     stack::refused(z.number, x)
 }

@@ -1,4 +1,4 @@
--- No form looks at the places of its operands: what it makes of them, without places, it makes of them without theirs. Assumes nothing.
+-- No form depends on the places of its operands: erasing places commutes with each form. Assumes nothing.
 use Prim.Native.Nat.{ℕ}
 use mathlib.Core.Path.{_≡_, refl, _∙_}
 use lib.Dec.{eqb}
@@ -7,7 +7,7 @@ use Rattle.value.specs.Values.{Value, number, string, wide, fault, inExpression
 use Rattle.value.specs.Attributes.{Attributes, unaryFrom, binaryFrom, firstArm, choiceFrom}
 use Rattle.soundness.proofs.Results.{of-unary, of-binary}
 
--- values without places: of a string only its bytes are left
+-- values without places: a string keeps only its bytes
 abbrev pub erasePlaces : Value → Value
 erasePlaces (number x) = number x
 erasePlaces (string p s) = string (inExpression 0 0) s
@@ -17,7 +17,7 @@ erasePlaces (fault n) = fault n
 abbrev pub erasePlacesOf : Attributes → Attributes
 erasePlacesOf a = record { kind = a .kind; value = erasePlaces (a .value); count = a .count; missing = a .missing }
 
--- values: an operator looks at no place, and gives none
+-- values: an operator depends on no place and has no place in its result
 unary-value : (o : ℕ) (v : Value) → unaryValue o v ≡ unaryValue o (erasePlaces v)
 unfolding unaryValue
 unary-value o (number x) = refl

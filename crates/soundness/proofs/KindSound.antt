@@ -1,5 +1,5 @@
--- Where the kinds suit, a value is of the settled kind, or evaluation met 11 or 12: values never find out anything about kinds that the
--- kinds did not say before. A law for each form, from the same of its operands. Assumes nothing.
+-- If the kinds in an expression do not clash, its value has its kind, or evaluation met 11 or 12. One law for each form, from the same of
+-- its operands. Assumes nothing.
 use Prim.Native.Nat.{ℕ, _+_, _*_, _-_, _/_, _%_, _^_}
 use native.Mathlib.Omega.{arith}
 use mathlib.Core.Path.{_≡_, refl, sym, ap, _∙_}
@@ -17,13 +17,17 @@ use Rattle.arithmetic.specs.Operators.{difference, shift-left, shift-right, bit
 use Rattle.arithmetic.specs.declared.Outcome.{Outcome}
 use Rattle.arithmetic.specs.declared.Outcome.the-variants.{Number as Result, Refused}
 use Rattle.value.specs.Kinds.{kindNumber, isNumber, alikeKinds, compares, unaryKind, binaryKind, choiceKind}
-use Rattle.value.specs.Values.{Value, number, string, wide, fault, kindOf, resultOf, unaryValue, skips, bothValues, binaryValue, choiceValue}
+use Rattle.value.specs.Values.{Value, number, string, wide, fault, kindOf, RuntimeRefusal, HasKind, resultOf}
+use Rattle.value.specs.Values.{unaryValue, skips, bothValues, binaryValue, choiceValue}
 use Rattle.value.specs.Attributes.{Attributes, primaryOf, unaryFrom, binaryFrom, choiceFrom}
-use Rattle.soundness.specs.Settled.{RuntimeRefusal, HasKind, KindSound}
 use Rattle.value.specs.declared.Kind.{Kind}
 use Rattle.value.specs.declared.Kind.the-variants.{Number, String, Wide, Clash}
 
--- a result, where it is given
+-- attributes whose kind is no clash have a value of that kind, or a refusal of evaluation
+abbrev pub KindSound : Attributes → Type 0
+KindSound a = (a .kind ≡ Clash → ⊥) → HasKind (a .kind) (a .value)
+
+-- an outcome of arithmetic: a number, or a refusal of evaluation
 Timely : Outcome → Type 0
 Timely (Result x) = Unit
 Timely (Refused n) = RuntimeRefusal n
@@ -68,7 +72,7 @@ applied-timely and x y = tt
 applied-timely xor x y = tt
 applied-timely or x y = tt
 
--- a primary: its kind is its value's
+-- a primary: its kind is that of its value
 leaf-suits : (v : Value) → (kindOf v ≡ Clash → ⊥) → HasKind (kindOf v) v
 leaf-suits (number x) n = refl
 leaf-suits (string p s) n = refl
@@ -90,7 +94,7 @@ unary-suits o String v h n = absurd (n refl)
 unary-suits o Wide v h n = absurd (n refl)
 unary-suits o Clash v h n = absurd (n refl)
 
--- a binary operator: kinds that cannot suit it
+-- a binary operator: kinds that clash
 mixed : (t : Bool) → pick (pick t false false) Number Clash ≡ Clash
 mixed true = refl
 mixed false = refl
@@ -106,7 +110,7 @@ clash-right o String = mixed (compares o)
 clash-right o Wide = mixed (compares o)
 clash-right o Clash = mixed (compares o)
 
--- a kind that suits is a number's
+-- a kind that does not clash is that of a number
 binary-number : (o : ℕ) (j k : Kind) → (binaryKind o j k ≡ Clash → ⊥) → binaryKind o j k ≡ Number
 unfolding binaryKind
 binary-number o j k =
@@ -114,7 +118,7 @@ binary-number o j k =
     (λ _ n. absurd (n refl))
 
 module _ (o : ℕ) (j k : Kind) (n : binaryKind o j k ≡ Clash → ⊥) where
-  -- both operands are there
+  -- both operands are evaluated
   both-suit : (v w : Value) → HasKind j v → HasKind k w → HasKind Number (bothValues o v w)
   unfolding binaryKind bothValues
   both-suit (number x) (number y) h i =
@@ -139,7 +143,7 @@ module _ (o : ℕ) (j k : Kind) (n : binaryKind o j k ≡ Clash → ⊥) where
       let r = i (λ e. n (rw e (clash-right o j))) in
       rw (binary-number o j k n) (pick-case (λ (z : Value). HasKind Number z) (skips o v) (λ _. refl) (λ _. both-suit v w l r))
 
--- kinds are told by their numbers
+-- two kinds with the same number are equal
 kind-numbered : ℕ → Kind
 kind-numbered n = pick (eqb n 0) Number (pick (eqb n 1) String (pick (eqb n 2) Wide Clash))
 
@@ -153,9 +157,9 @@ told Clash = refl
 same-kind : (j k : Kind) → eqb (kindNumber j) (kindNumber k) ≡ true → j ≡ k
 same-kind j k e = sym (told j) ∙ ap kind-numbered (eqb-true (kindNumber j) (kindNumber k) e) ∙ told k
 
--- a choice: the test is a number, and the arms are of one kind, which is its own
+-- a choice: the test is a number, and the arms are of one kind, which is the kind of the choice
 module _ (i j k : Kind) (n : choiceKind i j k ≡ Clash → ⊥) where
-  -- what a choice of kinds is, with its test apart
+  -- the kind of a choice, with its test given separately
   choice-suits : (u v w : Value) → ((i ≡ Clash → ⊥) → HasKind i u) → ((j ≡ Clash → ⊥) → HasKind j v) → ((k ≡ Clash → ⊥) → HasKind k w)
       → HasKind (choiceKind i j k) (choiceValue u v w)
   unfolding choiceKind choiceValue

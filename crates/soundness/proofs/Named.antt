@@ -1,4 +1,4 @@
--- A primary depends on the table through the record under the name in its token, and not on where that record stands. Assumes nothing.
+-- A primary depends on the table only through the record under the name in its token, and not on the place of that record. Assumes nothing.
 use Prim.Native.Nat.{ℕ}
 use mathlib.Core.Path.{_≡_, refl, sym, ap, _∙_}
 use mathlib.Core.Logic.{inl, inr}
@@ -17,7 +17,7 @@ use Rattle.value.specs.Values.{Value, number, string, wide, fault, kindOf, inEx
 use Rattle.value.specs.Attributes.{primaryOf}
 use Rattle.soundness.proofs.ErasePlaces.{erasePlaces, erasePlacesOf}
 
--- a record's content as a value, and whether there is no record
+-- the content of a record as a value, and whether there is no record
 given : Content → Value
 given (holds x) = number x
 given (holdsString s) = string (inExpression 0 0) s

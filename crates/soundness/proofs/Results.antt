@@ -1,5 +1,5 @@
--- What holds of every number and of every refusal holds of what an operator gives, which is one of them. Of a choice it holds where it
--- holds of both arms. Assumes nothing.
+-- A property of every number and of every refusal is a property of the result of an operator, which is one of them; and of a choice if both
+-- arms have it. Assumes nothing.
 use Prim.Native.Nat.{ℕ}
 use lib.Dec.{eqb}
 use Rattle.text.proofs.Laws.{pick-case}

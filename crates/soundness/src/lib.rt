@@ -1,1 +1,1 @@
-// Kinds that are settled, and values without their places: definitions and theorems alone. The code is in the crate `value`.
+// The value of an expression has its kind, and does not depend on places: theorems only. The code is in the crate `value`.

@@ -1,7 +1,7 @@
--- What is proved, on one page: each promise of docs/PROMISES.md that is a theorem, with its full statement, and its proof in the crate that
--- is cited. Bytes are natural numbers; `e` is an expression, `t` a table of settings, `f` a file, each a list of bytes. The definitions that
--- the statements are made of are in the files that the imports name. That every exported call ends, does nothing undefined and gives an
--- answer for any bytes (demand 1) is what the toolchain proves of each function before anything else, and is no theorem here.
+-- What is proved, on one page: each promise of docs/PROMISES.md that is a theorem, with its full statement, proved by citing its lemma.
+-- Bytes are natural numbers; `e` is an expression, `t` a table of settings, `f` a file, each a list of bytes. The definitions in the
+-- statements are in the files that the imports name. Demand 1 is no theorem here: the toolchain proves of each function that it ends, does
+-- nothing undefined and gives an answer for any bytes.
 use Prim.Native.Nat.{ℕ, _≤_, _<_}
 use mathlib.Core.Path.{_≡_}
 use mathlib.Core.Logic.{_↔_, _⊎_}
@@ -10,7 +10,6 @@ use mathlib.Core.List.{List, map}
 use lib.ListN.{length, getD, take}
 use Rattle.units.specs.Refusals.{TABLE-MALFORMED, NO-DERIVATION}
 use Rattle.units.specs.declared.Refusal.{Refusal}
-use Rattle.text.specs.Bytes.{bytes}
 use Rattle.settings.specs.Table.{wellFormed}
 use Rattle.token.specs.Tokens.{Token, reading}
 use Rattle.token.specs.declared.scan.Ending.the-variants.{Complete, Refused}
@@ -20,14 +19,13 @@ use Rattle.grammar.specs.Bars.{bare, barOutside}
 use Rattle.grammar.specs.Parse.{Reads, parse, accepted as parsed, refused as unparsed}
 use Rattle.grammar.proofs.Decided.{unambiguous, bounded, evaluates}
 use Rattle.grammar.proofs.Bars.{bars-seen}
-use Rattle.value.specs.Values.{Value, kindOf}
-use Rattle.soundness.specs.Settled.{HasKind}
+use Rattle.value.specs.Values.{Value, kindOf, HasKind}
+use Rattle.value.specs.Places.{InBounds}
 use Rattle.value.specs.declared.Kind.the-variants.{Clash}
 use Rattle.expression.specs.Meaning.{codeOf, meaning as attributes}
 use Rattle.evaluation.specs.Evaluation.{value, refused as refusedWhole, refusedWith, lineOf, checkThenAnswer, evaluation}
-use Rattle.answers.specs.Answers.{InBounds}
-use Rattle.answers.proofs.Answered.{unread, exact, counted}
-use Rattle.answers.proofs.Placed.{placed}
+use Rattle.answers.proofs.AnswersExact.{malformed, unreadable as not-read, underived, derived, kind-sound, value-kind, counted}
+use Rattle.answers.proofs.StringsInBounds.{strings-in-bounds}
 use Rattle.answers.proofs.LineZero.{without-line}
 use Rattle.line.specs.Lines.{lines}
 use Rattle.select.specs.Select.{accepted, refused, run, start, selection, Selects}
@@ -35,10 +33,9 @@ use Rattle.select.specs.declared.Answer.{Answer}
 use Rattle.select.specs.declared.Answer.the-variants.{Accepted}
 use Rattle.select.proofs.MarksEachLine.{marks-each-line}
 use Rattle.blocks.specs.Blocks.{Blocks, Derives as DerivesBlocks, depth}
-use Rattle.blocks.specs.Meaning.{means, fault, meaning}
+use Rattle.blocks.specs.Meaning.{means, fault, meaning, resultOf, WithinLimit}
 use Rattle.blocks.specs.Reading.{readsOf}
 use Rattle.blocks.specs.Beginnings.{Innermost}
-use Rattle.blocks.specs.Decides.{WithinLimit, resultOf}
 use Rattle.blocks.specs.Refused.{RefusedAt, RefusedAtEnd}
 use Rattle.blocks.proofs.Decided.{unambiguous as blocks-unambiguous, sound, complete, run-complete}
 use Rattle.blocks.proofs.MarksTellReading.{marks-tell-reading}
@@ -46,56 +43,56 @@ use Rattle.blocks.proofs.Refused.{refused-by-blocks}
 use Rattle.blocks.proofs.FaultNumbers.{fault-numbers}
 use Rattle.blocks.proofs.OneInnermost.{one-innermost}
 use Rattle.isolation.specs.Isolation.{Comparable}
-use Rattle.isolation.proofs.Isolated.{isolation, two-calls}
+use Rattle.isolation.proofs.SelectionIsolated.{isolation, two-calls}
 use Rattle.field.specs.Fields.{fieldOf, lineOf as lineOfField}
 use Rattle.field.proofs.LineZero.{without-line as field-without-line}
 
 -- EXPRESSIONS (demand 2)
 
--- A list of tokens derives one tree at most: `code` gives the code of a token, and tokens may be of any sort.
+-- A list of tokens derives at most one tree. `code` is the code of a token; tokens may be of any type.
 pub one-tree : {K : Type 0} (code : K → ℕ) (ts : List K) (s u : Tree K)
     → Derives code expression ts s → Derives code expression ts u → s ≡ u
 one-tree = unambiguous
 
--- A malformed table is refused with 1, whatever the expression.
+-- Over a malformed table every expression is refused with 1.
 pub malformed-table : (e t : List ℕ) → wellFormed t ≡ false → evaluation e t ≡ refusedWith TABLE-MALFORMED
-malformed-table e t = unread e t .malformed
+malformed-table = malformed
 
--- Over a well-formed table come next the refusals that reading the tokens meets, 2 to 6.
+-- Over a well-formed table the refusals of reading the tokens come next: 2 to 6.
 pub unreadable : (e t : List ℕ) → wellFormed t ≡ true → (r : Refusal) → reading e .ending ≡ Refused r → evaluation e t ≡ refusedWhole r
-unreadable e t = unread e t .unread
+unreadable = not-read
 
--- Where none of these is met, 7 is given exactly if no tree derives from all the tokens.
+-- If reading is complete, the answer is refusal 7 exactly if the tokens derive no tree.
 pub no-derivation : (e t : List ℕ) → wellFormed t ≡ true → reading e .ending ≡ Complete
     → (evaluation e t ≡ refusedWith NO-DERIVATION) ↔ ((s : Tree Token) → Derives codeOf expression (reading e .tokens) s → ⊥)
-no-derivation e t sound complete = exact e t sound complete .underived
+no-derivation = underived
 
--- Else the tree decides: 8 for a bar outside parentheses, then 9 and 10, else the value and the count that the tree folds to.
+-- If they derive a tree, it decides: 8 for a bar outside parentheses, then 9 and 10, else the value and the count of the tree, or 11 or 12.
 pub tree-decides : (e t : List ℕ) → wellFormed t ≡ true → reading e .ending ≡ Complete
     → (s : Tree Token) (d : Derives codeOf expression (reading e .tokens) s)
     → evaluation e t ≡ checkThenAnswer (bare codeOf d) (fold (attributes e t) s)
-tree-decides e t sound complete = exact e t sound complete .derived
+tree-decides = derived
 
--- Where the kinds in a tree suit each other, its value is of the tree's kind, or evaluation met 11 or 12.
-pub kinds-settle : (e t : List ℕ) → wellFormed t ≡ true → reading e .ending ≡ Complete
-    → (s : Tree Token) → (fold (attributes e t) s .kind ≡ Clash → ⊥) → HasKind (fold (attributes e t) s .kind) (fold (attributes e t) s .value)
-kinds-settle e t sound complete = exact e t sound complete .kind-sound
+-- If the kinds in a tree do not clash, its value has the kind of the tree, or it is refusal 11 or 12.
+pub kinds-settle : (e t : List ℕ) (s : Tree Token)
+    → (fold (attributes e t) s .kind ≡ Clash → ⊥) → HasKind (fold (attributes e t) s .kind) (fold (attributes e t) s .value)
+kinds-settle = kind-sound
 
--- So a value that is answered is of the tree's kind, whatever was skipped.
+-- So an answered value has the kind of the tree, also if operands were skipped.
 pub value-has-its-kind : (e t : List ℕ) → wellFormed t ≡ true → reading e .ending ≡ Complete
     → (s : Tree Token) → Derives codeOf expression (reading e .tokens) s
     → (v : Value) (n : ℕ) → evaluation e t ≡ value v n → kindOf v ≡ fold (attributes e t) s .kind
-value-has-its-kind e t sound complete = exact e t sound complete .value-kind
+value-has-its-kind = value-kind
 
--- With a value, fewer operators were applied than the expression has tokens.
+-- For an answered value, fewer operators were applied than the expression has tokens.
 pub count-below-tokens : (e t : List ℕ) (v : Value) (n : ℕ) → evaluation e t ≡ value v n → n < length (reading e .tokens)
 count-below-tokens = counted
 
--- A string that is answered has the bytes at its place, and the place lies within the expression or the table.
+-- An answered string has the bytes at its place, and the place is within the expression or the table.
 pub string-at-its-place : (e t : List ℕ) (v : Value) (n : ℕ) → evaluation e t ≡ value v n → InBounds e t v
-string-at-its-place = placed
+string-at-its-place = strings-in-bounds
 
--- The answer to an expression has line 0, also where it is a refusal; so has the answer of a data field.
+-- The answer to an expression has line 0, also if it is a refusal; so has the answer of a data field.
 pub expression-has-no-line : (e t : List ℕ) → lineOf (evaluation e t) ≡ 0
 expression-has-no-line = without-line
 
@@ -104,28 +101,28 @@ field-has-no-line = field-without-line
 
 -- THE SELECTION OF LINES, by the blocks of a file
 
--- Lines derive one list of blocks at most.
+-- Lines derive at most one list of blocks.
 pub one-list-of-blocks : (ls : List (List ℕ)) (a b : Blocks) → DerivesBlocks ls a → DerivesBlocks ls b → a ≡ b
 one-list-of-blocks = blocks-unambiguous
 
--- Sound: the lines of an accepted selection derive blocks within the limits, and its marks and count are what these mean.
+-- Sound: the lines of an accepted selection derive blocks within the limits, and its marks and count are the meaning of the blocks.
 pub selection-sound : (f t : List ℕ) (room : ℕ) (ms : List ℕ) (c : ℕ) → selection f t room ≡ accepted ms c
     → (bs : Blocks) × DerivesBlocks (lines f) bs × (depth bs ≤ 16) × WithinLimit (lines f) × (meaning t true bs ≡ means ms c)
 selection-sound = sound
 
--- Complete: where nothing is refused before the first line (1, 14, 15, 16) and the lines derive blocks within the limits, the selection is
--- what these mean, a fault with its line included.
+-- Complete: if nothing is refused before the first line (1, 14, 15, 16) and the lines derive blocks within the limits, the selection is the
+-- meaning of the blocks, a fault with its line included.
 pub selection-complete : (f t : List ℕ) (room : ℕ) (bs : Blocks)
     → wellFormed t ≡ true → length f ≤ 65536 → length (lines f) ≤ 4096 → length (lines f) ≤ room
     → DerivesBlocks (lines f) bs → depth bs ≤ 16 → WithinLimit (lines f) → selection f t room ≡ resultOf (meaning t true bs)
 selection-complete = complete
 
--- The same of a run over lines, which a selection makes after its first checks.
+-- The same for the run over lines that a selection makes after its first checks.
 pub run-is-complete : (t : List ℕ) (ls : List (List ℕ)) (bs : Blocks) → DerivesBlocks ls bs → depth bs ≤ 16 → WithinLimit ls
     → run t 1 start ls ≡ resultOf (meaning t true bs)
 run-is-complete = run-complete
 
--- An accepted selection has a mark for each line.
+-- An accepted selection has one mark per line.
 pub one-mark-per-line : (f t : List ℕ) (room : ℕ) (ms : List ℕ) (c : ℕ) → selection f t room ≡ accepted ms c → length ms ≡ length (lines f)
 one-mark-per-line = marks-each-line
 
@@ -135,29 +132,29 @@ pub marks-show-reading : (f t : List ℕ) (room : ℕ) (ms : List ℕ) (c : ℕ)
     → ((getD (readsOf t true bs) i false ≡ true) ↔ (3 ≤ getD ms i 0)) × (getD ms i 0 ≤ 5)
 marks-show-reading = marks-tell-reading
 
--- A run is refused with number r at line n exactly if line n is the first one that has a reason to be refused, and r is its number, or if
--- no line has one, a group is open at the end (21), and line n is the innermost open `!if`.
+-- A run is refused with number r at line n exactly if line n is the first line with a reason to be refused, and r is the number of the
+-- reason; or if no line has a reason, r is 21, a group is open at the end, and line n is the innermost open `!if`.
 pub refused-exactly : (t : List ℕ) (ls : List (List ℕ)) (r n : ℕ)
     → (run t 1 start ls ≡ refused r n) ↔ (RefusedAt t ls r n ⊎ ((r ≡ 21) × RefusedAtEnd t ls n))
 refused-exactly = refused-by-blocks
 
--- No two reasons share a number: a fault in the text of a directive never has one of 17 to 21.
+-- No two reasons share a number: a fault in the text of a directive never has a number from 17 to 21.
 pub faults-have-other-numbers : (t : List ℕ) (bs : Blocks) (r i : ℕ) → meaning t true bs ≡ fault r i → 17 ≤ r → r ≤ 21 → ⊥
 faults-have-other-numbers = fault-numbers
 
--- One line at most is the innermost open `!if`.
+-- At most one line is the innermost open `!if`.
 pub innermost-is-one-line : (ls : List (List ℕ)) (m k : ℕ) → Innermost ls m → Innermost ls k → m ≡ k
 innermost-is-one-line = one-innermost
 
 -- ISOLATION (demand 3)
 
--- A second selection gives the same marks and count as an accepted one, if its file has the same words line by line, the directives that
--- the first one read have the same bytes, the tables agree on the records under the names in them, and its own limits hold.
+-- A second selection has the same marks and count as an accepted one if its file has the same words line by line, the directives that the
+-- first one read have the same bytes, the tables have the same records under the names in these, and the second file is within the limits.
 pub isolated : (f₁ t₁ : List ℕ) (room₁ : ℕ) (ms : List ℕ) (c : ℕ) → selection f₁ t₁ room₁ ≡ accepted ms c
     → (f₂ t₂ : List ℕ) (room₂ : ℕ) → Comparable f₁ t₁ ms f₂ t₂ room₂ → selection f₂ t₂ room₂ ≡ accepted ms c
 isolated = isolation
 
--- The same of two calls, r being what a call answers and `left` the marks that it leaves.
+-- The same for two calls: `r` is the answer of a call, and `left` are the marks after it.
 pub isolated-calls : (f₁ t₁ marks₁ : List ℕ) (r₁ : Answer) (left₁ : List ℕ) → Selects f₁ t₁ marks₁ r₁ left₁
     → (n c : ℕ) → r₁ ≡ Accepted (record { 0 = n }) c
     → (f₂ t₂ marks₂ : List ℕ) (r₂ : Answer) (left₂ : List ℕ) → Selects f₂ t₂ marks₂ r₂ left₂
@@ -165,9 +162,9 @@ pub isolated-calls : (f₁ t₁ marks₁ : List ℕ) (r₁ : Answer) (left₁ : 
     → (r₂ ≡ Accepted (record { 0 = n }) c) × (take n left₂ ≡ take n left₁)
 isolated-calls = two-calls
 
--- THE PARSER, of which no promise above speaks
+-- THE PARSER, which no statement above mentions
 
--- Over any algebra the parser accepts exactly what the tree of all the tokens folds to, and refuses exactly if they have no tree.
+-- Over any algebra the parser accepts with exactly what the tree of the tokens folds to, and refuses exactly if there is no tree.
 pub parser-accepts : {K A : Type 0} {code : K → ℕ} {ts : List K} {tok : ℕ → K} → Reads code ts tok → (alg : Algebra K A) (a : A)
     → (parse code alg tok (length ts) ≡ parsed a) ↔ ((s : Tree K) × Derives code expression ts s × (a ≡ fold alg s))
 parser-accepts reads alg = evaluates reads alg .accepted-exactly
@@ -176,7 +173,7 @@ pub parser-refuses : {K A : Type 0} {code : K → ℕ} {ts : List K} {tok : ℕ 
     → ((i : ℕ) × (parse code alg tok (length ts) ≡ unparsed i)) ↔ ((s : Tree K) → Derives code expression ts s → ⊥)
 parser-refuses reads alg = evaluates reads alg .refused-exactly
 
--- An algebra that counts at most one for each operator counts fewer than there are tokens.
+-- An algebra that counts at most one per operator counts fewer than there are tokens.
 pub counts-below-tokens : {K A : Type 0} (code : K → ℕ) (alg : Algebra K A) (count : A → ℕ) → Counts alg count
     → (ts : List K) (s : Tree K) → Derives code expression ts s → count (fold alg s) < length ts
 counts-below-tokens = bounded

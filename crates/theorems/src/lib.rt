@@ -1,1 +1,1 @@
-// What is proved, on one page: specs/Main.antt. Theorems alone; the code is in the crates below.
+// What is proved, on one page: specs/Main.antt. Theorems only; the code is in the crates below.

@@ -1,5 +1,5 @@
--- What the code's values, attributes and tokens mean: with a string's place go the bytes there. Contracts between layers cite this; no
--- promise about an answer does.
+-- What the values, attributes and tokens of the code denote: a string at a place denotes the place with its bytes. Contracts between layers
+-- cite this; no promise about an answer does.
 use Prim.Native.Nat.{ℕ}
 use mathlib.Core.List.{List}
 use Rattle.token.specs.Tokens.{Token}

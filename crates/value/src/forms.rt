@@ -1,4 +1,4 @@
-// What is known of a part of an expression, from what is known of its operands.
+// The attributes of an expression from those of its operands, form by form.
 use crate::Attributes;
 use crate::Place;
 use crate::Value;
@@ -18,7 +18,7 @@ ghost use Rattle.value.specs.Values.{kindOf, nameIn, skips};
 ghost use Rattle.value.specs.Attributes.{primaryOf, unaryFrom, binaryFrom, firstArm, choiceFrom};
 ghost use Rattle.value.specs.Denote.{denoteValue, denoteAttributes, denoteToken};
 
-// A token, as the arrays of the scanner have it.
+// A token in the arrays of the scanner.
 pub struct Token {
     pub code: u8,
     pub start: u16,
@@ -26,7 +26,7 @@ pub struct Token {
     pub value: u64,
 }
 
-// A number less another, 0 where that is larger.
+// The difference of two numbers, 0 if the second is larger.
 fn saturating_sub(n: usize, k: usize) -> usize
     ensures { λ r. ⌜ r ≡ n - k ⌝ }
 {
@@ -48,7 +48,7 @@ fn size(k: Token) -> usize
     len as usize
 }
 
-// What the table has under the name in a token.
+// The setting under the name in a token.
 fn named(expr: &[u8], table: &[u8], k: Token) -> Setting
     requires { ⌜ wellFormed (now table) ≡ true ⌝ }
     ensures { λ r. ⌜ r ≡ settingUnder (now (table .entry)) (nameIn (now (expr .entry)) (denoteToken k)) ⌝ }
@@ -66,7 +66,7 @@ fn named(expr: &[u8], table: &[u8], k: Token) -> Setting
     }
 }
 
-// What is known of a value by itself.
+// The attributes of a primary with this value.
 fn plain(value: Value, missing: bool) -> Attributes
     ensures { λ r. ⌜ ((e t : List ℕ) → denoteAttributes e t r ≡ record { kind = kindOf (denoteValue e t value); value = denoteValue e t value; count = 0; missing = missing }) ⌝ }
 {
@@ -79,7 +79,7 @@ fn plain(value: Value, missing: bool) -> Attributes
     }
 }
 
-// What is known of a primary.
+// The attributes of a primary.
 pub fn of_primary(expr: &[u8], table: &[u8], k: Token) -> Attributes
     requires { ⌜ wellFormed (now table) ≡ true ⌝ }
     ensures { λ r. ⌜ denoteAttributes (now (expr .entry)) (now (table .entry)) r ≡ primaryOf (now (expr .entry)) (now (table .entry)) (denoteToken k) ⌝ }
@@ -135,7 +135,7 @@ pub fn of_unary(o: u8, a: Attributes) -> Attributes
     }
 }
 
-// The second of two counts, or 0.
+// A count, or 0 if its operand is skipped.
 fn unless(skip: bool, n: usize) -> usize
     ensures { λ r. ⌜ r ≡ pick skip 0 n ⌝ }
 {

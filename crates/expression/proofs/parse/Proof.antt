@@ -1,4 +1,4 @@
--- The order that the descent wrote leaves what the grammar's parser makes of the tokens; there is room for its operands.
+-- The order that the descent wrote leaves the result of the grammar's parser, and there is room for its operands.
 use Prim.Native.Nat.{ℕ, _≤_, _+_}
 use native.Mathlib.Omega.{arith}
 use mathlib.Core.List.{List}
@@ -30,7 +30,7 @@ input s =
       n = s .args .n .0;
     }
 
--- the parser's result for the whole expression
+-- the result of the parser for the whole expression
 abbrev Parsing : tie.Start → Result Attributes → Type 0
 Parsing s r =
     let i = input s in
@@ -44,7 +44,7 @@ module _ (s : tie.Start) (most m j : ℕ) (o : List ℕ) (w : OrderTo (input s .
       let v = valued (input s) most (s .pre .holding .few) (take m o) j (omega (arith, l, w .most)) (omega (arith, l)) (w .made) in
       record { ready = s .pre; all = w .most; long = w .long; value = v .0; gives = v .1 }
 
-  -- what it leaves is what the parser makes
+  -- it leaves the result of the parser
   folded : (z : CodedAttributes) → Folds (input s) most o m z → Parsing s (got (denoteAttributes (input s .e) (input s .t) z) j)
   folded z f =
       let l = length-take-le m o (omega (arith, w .most, w .long)) in

@@ -1,4 +1,4 @@
--- The answer's variant and its kind decide; the part handed on holds the string's bytes.
+-- The variant of the answer and its kind decide; the part that is passed on holds the bytes of the string.
 use mathlib.Core.Path.{refl}
 use Rattle.field.specs.Fields.{fieldOf}
 use borrow.Author.Needs.{needs}

@@ -1,4 +1,4 @@
--- Whether the group is closed and how it stands decides.
+-- Whether the `!else` was seen and the state of the group decide.
 use Rattle.ruling.specs.Rules.{elseTransition}
 use borrow.Author.Needs.{needs}
 use Rattle.ruling.proofs.else_transition.Statement.{statement}

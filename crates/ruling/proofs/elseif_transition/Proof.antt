@@ -1,4 +1,4 @@
--- Whether the group is closed and how it stands decides.
+-- Whether the `!else` was seen and the state of the group decide.
 use Rattle.ruling.specs.Rules.{elseifTransition}
 use borrow.Author.Needs.{needs}
 use Rattle.ruling.proofs.elseif_transition.Statement.{statement}

@@ -1,4 +1,4 @@
--- How the group stands decides.
+-- The state of the group decides.
 use Rattle.ruling.specs.Rules.{endTransition}
 use borrow.Author.Needs.{needs}
 use Rattle.ruling.proofs.end_transition.Statement.{statement}

@@ -1,4 +1,4 @@
--- The byte after the blanks decides, where there is one.
+-- The byte after the blanks decides, if there is one.
 use mathlib.Core.Path.{sym}
 use Rattle.condition.proofs.Texts.{idle-past, idle-by-byte}
 use borrow.Author.Needs.{needs}

@@ -1,4 +1,4 @@
--- The variant and the value's kind decide.
+-- The variant and the kind of the value decide.
 use Rattle.condition.specs.Conditions.{ofAnswer}
 use borrow.Author.Needs.{needs}
 use Rattle.condition.proofs.expressions.of_answer.Statement.{statement}

@@ -1,4 +1,4 @@
--- Without its blank the text is malformed; with it what stands behind the blanks decides.
+-- Without its blank the text is malformed; with it the text after the blanks decides.
 use native.Mathlib.Omega.{arith}
 use mathlib.Core.Path.{sym, _∙_}
 use borrow.Author.Tests.{not-true, not-false}

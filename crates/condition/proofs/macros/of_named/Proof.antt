@@ -1,4 +1,4 @@
--- The tests are those of the definition, in order; what the table has under the name decides.
+-- The tests are those of the definition, in order; the setting under the name decides.
 use native.Mathlib.Omega.{arith}
 use mathlib.Core.Path.{sym, _∙_}
 use borrow.Author.Tests.{lt-ltb, not-true, not-false}

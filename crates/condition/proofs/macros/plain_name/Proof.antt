@@ -1,4 +1,4 @@
--- The name is all that is read.
+-- The run of the name gives its length.
 use borrow.Author.Needs.{needs}
 use Rattle.condition.proofs.macros.plain_name.Statement.{statement}
 use Rattle.condition.proofs.macros.plain_name.Tie as tie

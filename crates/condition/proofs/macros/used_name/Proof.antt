@@ -1,4 +1,4 @@
--- The tests are those of the definition, in order; a byte that is a parenthesis stands within the slice.
+-- The tests are those of the definition, in order; a byte that is a parenthesis is within the slice.
 use native.Mathlib.Omega.{arith}
 use mathlib.Core.Path.{sym, _∙_}
 use borrow.Author.Tests.{eq-eqb, ne-eqb}

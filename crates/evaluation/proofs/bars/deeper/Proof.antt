@@ -1,4 +1,4 @@
--- The token decides, and below 0 no parenthesis is closed.
+-- The token decides, and the number never falls below 0.
 use borrow.Author.Tests.{eq-eqb, ne-eqb}
 use borrow.Author.Needs.{needs}
 use Rattle.evaluation.proofs.bars.deeper.Statement.{statement}

@@ -1,4 +1,5 @@
--- The loop's invariant: the bars of all tokens are those from token i on, with so many parentheses open. Each turn takes one token off.
+-- The invariant of the loop: all tokens have a bar outside parentheses exactly if those from token i on have one, with the current number
+-- of open parentheses. Each turn takes one token.
 use Prim.Native.Nat.{_-_, _≤_}
 use native.Mathlib.Omega.{arith}
 use mathlib.Core.Path.{_≡_, refl, sym, _∙_}

@@ -1,4 +1,4 @@
--- What the descent found is what the grammar's parser finds; a token left over is in the way.
+-- The result of the descent is that of the grammar's parser; a token after the expression is refused.
 use mathlib.Core.Path.{_∙_}
 use borrow.Author.Needs.{needs}
 use Rattle.grammar.proofs.Steps.{whole-bad, whole-rest, whole-made}

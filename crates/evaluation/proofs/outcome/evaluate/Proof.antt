@@ -1,4 +1,4 @@
--- The table's check decides.
+-- The check of the table decides.
 use mathlib.Core.Path.{sym, _∙_}
 use borrow.Author.Needs.{needs}
 use borrow.Author.Tests.{not-true, not-false}

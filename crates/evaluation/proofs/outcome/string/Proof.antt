@@ -1,4 +1,4 @@
--- The variant decides; a part of no bytes has none.
+-- The variant decides; an empty part has no bytes.
 use Rattle.value.proofs.Parts.{part-bytes}
 use borrow.Author.Needs.{needs}
 use Rattle.evaluation.proofs.outcome.string.Statement.{statement}

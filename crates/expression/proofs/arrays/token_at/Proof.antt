@@ -1,4 +1,4 @@
--- The token is there.
+-- The token is within the arrays.
 use borrow.Author.Tests.{lt-ltb}
 use borrow.Author.Needs.{needs}
 use Rattle.expression.proofs.arrays.token_at.Statement.{statement}

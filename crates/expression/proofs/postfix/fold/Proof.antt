@@ -1,5 +1,5 @@
--- The loop's invariant: with the operands that wait, the entries that are left leave whatever all entries leave. The measure is how many
--- are left.
+-- The invariant of the loop: from the current stack the remaining entries leave what all entries leave. The measure is the number of
+-- remaining entries.
 use Prim.Native.Nat.{ℕ, _-_, _≤_, _<_}
 use native.Mathlib.Omega.{arith}
 use mathlib.Core.Path.{_≡_, refl, sym, ap, _∙_}
@@ -57,7 +57,8 @@ work s =
       filled = s .args .filled;
     }
 
--- Where an entry was read: the loop, what its test says, the start, the entry's number and the code of its token. Every arm goes on from there.
+-- After an entry is read: the loop, the result of its test, the start, the number of the entry and the code of its token. Every arm goes on
+-- from there.
 abbrev EntryRead : Type 0
 EntryRead = tie.After-entry-number Inv-loop μ-loop
 
@@ -70,7 +71,7 @@ number entry = entry .entry-number .result
 abbrev code : EntryRead → ℕ
 code entry = codeIn (work (start-of entry) .i) (number entry)
 
--- the entry stands for y
+-- the sort of the entry is y
 abbrev Is : Entry → EntryRead → Type 0
 Is y entry =
     let loop = entry .before .before .before .loop in
@@ -100,7 +101,7 @@ no-filler c q =
     let entry-number = c .before .before .before .before .before .entry-number in
     c .if3 .taken (sym (entry-number .ensures) ∙ q)
 
--- what it stands for, in each arm
+-- its sort, in each arm
 found-unary : (c : tie.Then1 Inv-loop μ-loop) → Is unary (c .before)
 found-unary c =
     let entry = c .before in

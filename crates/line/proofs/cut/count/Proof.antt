@@ -1,4 +1,5 @@
--- The LFs of earlier blocks, those of this block so far, and the lines that have begun and not ended or are still to come, make up all lines.
+-- The invariant: the number of all lines is the sum of the LFs of earlier blocks, those of this block so far, and the lines from here on,
+-- one that has begun and not ended included.
 use Prim.Native.Nat.{_≤_, _+_, _-_}
 use native.Mathlib.Omega.{arith}
 use mathlib.Core.Path.{_≡_, sym, _∙_}

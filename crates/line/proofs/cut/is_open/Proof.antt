@@ -1,4 +1,4 @@
--- A file of no bytes has begun no line; in any other the last byte tells.
+-- An empty file has no open line; in any other the last byte decides.
 use native.Mathlib.Omega.{arith}
 use borrow.Author.Tests.{lt-ltb, le-ltb}
 use lib.ListN.{length}

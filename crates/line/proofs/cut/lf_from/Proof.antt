@@ -1,4 +1,4 @@
--- The run up to the LF ends where what is left of it ends, at the start of every turn and after each byte of a turn.
+-- The invariant: the run up to the LF ends where its rest ends, at the start of every turn and after each byte of a turn.
 use Prim.Native.Nat.{ℕ, _≤_, _+_, _-_}
 use native.Mathlib.Omega.{arith}
 use lib.ListN.{length}
@@ -20,7 +20,7 @@ Turn = tie.In-loop Inv-loop μ-loop
 abbrev Reaches : Turn → ℕ → Type 0
 Reaches t k = let start = t .before .before .before in Passed (start .args .file .now) (start .args .from .0) (t .before .loop .i + k)
 
--- What is known after each byte that is no LF.
+-- The facts after each byte that is no LF.
 abbrev turn-1 : tie.Else1 Inv-loop μ-loop → Turn
 turn-1 c = c .before .before
 

@@ -1,4 +1,4 @@
--- Each way out is one of the definition's.
+-- Each exit is a case of the definition.
 use native.Mathlib.Omega.{arith}
 use Rattle.line.proofs.FirstLine.{end-no-lf, end-empty, end-no-cr, end-cr}
 use borrow.Author.Needs.{needs}

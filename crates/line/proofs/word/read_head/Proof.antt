@@ -1,4 +1,4 @@
--- The byte after the blanks decides whether there is a word; the run of letters behind it is the word.
+-- The byte after the blanks decides whether there is a word; the run of letters after it is the word.
 use native.Mathlib.Omega.{arith}
 use mathlib.Core.Path.{sym, _∙_}
 use Rattle.line.proofs.Words.{bang-inside, plain-line, word-inside, marked-line, text-starts}

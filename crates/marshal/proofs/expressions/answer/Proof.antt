@@ -1,4 +1,4 @@
--- The answer is the evaluation; it is stored as the definition shows it.
+-- The answer is that of `evaluation`, and is stored as in the definition.
 use borrow.Author.Needs.{needs}
 use Rattle.marshal.proofs.expressions.answer.Statement.{statement}
 use Rattle.marshal.proofs.expressions.answer.Tie as tie

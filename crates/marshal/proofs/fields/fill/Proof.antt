@@ -1,4 +1,4 @@
--- The variant decides; the buffer is as the field left it.
+-- The variant decides; the buffer is that of the field.
 use mathlib.Core.Path.{sym, _∙_}
 use borrow.Author.Needs.{needs}
 use Rattle.marshal.proofs.fields.fill.Statement.{statement}

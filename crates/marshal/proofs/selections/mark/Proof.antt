@@ -1,4 +1,4 @@
--- The answer tells what is shown; the marks are as the selection left them.
+-- The answer decides which numbers are stored; the marks are those of the selection.
 use mathlib.Core.Path.{sym, _∙_}
 use borrow.Author.Needs.{needs}
 use Rattle.marshal.proofs.selections.mark.Statement.{statement}

@@ -1,4 +1,4 @@
--- The check decides whether the table is looked into.
+-- The check of the table decides.
 use mathlib.Core.Path.{sym, _∙_}
 use borrow.Author.Tests.{not-true, not-false}
 use borrow.Author.Needs.{needs}

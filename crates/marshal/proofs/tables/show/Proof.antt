@@ -1,4 +1,4 @@
--- Each arm stores what its setting shows.
+-- Each arm stores the numbers of its setting.
 use borrow.Author.Needs.{needs}
 use Rattle.marshal.proofs.tables.show.Statement.{statement}
 use Rattle.marshal.proofs.tables.show.Tie as tie

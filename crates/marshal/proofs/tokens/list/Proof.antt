@@ -1,4 +1,4 @@
--- The arrays have room for 200 tokens; the scan left them, and the two numbers are its answer.
+-- The arrays have room for 200 tokens; the scan stored them, and the two numbers are its answer.
 use native.Mathlib.Omega.{arith}
 use borrow.Author.Needs.{needs}
 use Rattle.token.proofs.Reading.{most-tokens}

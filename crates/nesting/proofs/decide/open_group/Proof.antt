@@ -1,4 +1,4 @@
--- The depth, then how the innermost group stands, then the condition decide.
+-- The depth, then the state of the innermost group, then the condition decide.
 use mathlib.Core.Path.{sym, ap, _∙_}
 use borrow.Author.Tests.{le-leb, lt-leb, not-true, not-false}
 use native.Mathlib.Omega.{arith}

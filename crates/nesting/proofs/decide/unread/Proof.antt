@@ -1,4 +1,4 @@
--- A plain line is decided as its definition says; any other line by the function for all lines.
+-- A plain line has its own case; any other line goes to the function for all lines.
 use Rattle.nesting.specs.Decide.{decided}
 use borrow.Author.Needs.{needs}
 use Rattle.nesting.proofs.decide.unread.Statement.{statement}

@@ -1,4 +1,4 @@
--- The ruling decides.
+-- The transition decides.
 use borrow.Author.Needs.{needs}
 use Rattle.nesting.proofs.stack.apply.Statement.{statement}
 use Rattle.nesting.proofs.stack.apply.Tie as tie

@@ -1,4 +1,4 @@
--- The innermost group's digit tells.
+-- The digit of the innermost group decides.
 use mathlib.Core.Path.{_∙_}
 use Rattle.nesting.proofs.Stacks.{outside, top-state}
 use borrow.Author.Needs.{needs}

@@ -1,4 +1,4 @@
--- The innermost group's digit is dropped.
+-- The digit of the innermost group is dropped.
 use Rattle.nesting.proofs.Stacks.{popped, unchanged}
 use mathlib.Core.Path.{refl}
 use Rattle.nesting.specs.Decide.{pop}

@@ -1,4 +1,4 @@
--- A digit more below the others, and a line more.
+-- One more digit below the others, and one more line.
 use native.Mathlib.Omega.{arith}
 use Rattle.nesting.proofs.Stacks.{pushed}
 use borrow.Author.Needs.{needs}

@@ -1,4 +1,4 @@
--- Each turn takes one line off what is underway; the answer is that of what is left.
+-- Each turn takes one line; the answer is that of the rest of the run.
 use native.Mathlib.Omega.{arith}
 use Prim.Native.Nat.{_-_}
 use mathlib.Core.Path.{_≡_, refl, sym, _∙_}
@@ -128,7 +128,7 @@ plain-mark-requires c κs =
     let after = goes-on u (cut .next .ensures) (stepped .step .result) meets (start .pre .1) (not-false _ (c .before .if3 .left)) in
     omega (arith, after .represents .depth, after .represents .shallow)
 
--- Either way, the line after it.
+-- In both cases, the line after it.
 loop-less : tie.Need-loop-less Inv-loop μ-loop
 loop-less c =
     let cut = c .before .before .before .before .before .before in

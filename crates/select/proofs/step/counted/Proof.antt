@@ -1,4 +1,4 @@
--- The count alone changes.
+-- Only the count changes.
 use Prim.Native.Nat.{_+_}
 use mathlib.Core.Path.{refl, ap}
 use borrow.Author.Needs.{needs}

@@ -1,4 +1,4 @@
--- The kind is the value's.
+-- The kind is that of the value.
 use borrow.Author.Needs.{needs}
 use Rattle.value.proofs.forms.plain.Statement.{statement}
 use Rattle.value.proofs.forms.plain.Tie as tie

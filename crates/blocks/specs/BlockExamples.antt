@@ -1,5 +1,5 @@
--- The whole case of document 01 ("Lines and directives") by its blocks: antt computes that its lines derive them, and what they mean. Then a
--- group in a branch that is not taken, of which no directive is read. Last a file with two `!else` in a group that is not read, which
+-- The whole case of document 01 ("Lines and directives") by its blocks: antt computes that its lines derive them, and what they mean. Then
+-- a group in a branch that is not taken, of which no directive is read. Last a file with two `!else` in a group that is not read, which
 -- derives no blocks (proofs/TwoElses.antt) and is refused.
 use Prim.Native.Nat.{ℕ}
 use mathlib.Core.Path.{_≡_, refl}
@@ -32,7 +32,7 @@ use Rattle.ruling.specs.Rules.{elseifTransition, elseTransition, endTransition}
 use Rattle.nesting.specs.Decide.{opening, decided}
 use Rattle.select.specs.Step.{readCondition, step}
 use Rattle.select.specs.Select.{refused, run, start, selection}
-use Rattle.select.specs.Examples.{setting, file}
+use Rattle.blocks.specs.SelectionExamples.{setting, file}
 use Rattle.blocks.specs.Blocks.{Blocks, empty, line, group, elseif, else, Derives}
 use Rattle.blocks.specs.Meaning.{Meaning, means, fault, meaning}
 use Rattle.blocks.specs.Reading.{readsOf}
@@ -45,9 +45,9 @@ whole =
     (bytes "!endif")))
     (line (bytes "D") empty)
 
--- a dead group with every directive, whose conditions would be faults
-abbrev pub dead : Blocks
-dead =
+-- a skipped group with every directive, whose conditions would be faults
+abbrev pub skipped : Blocks
+skipped =
     group (bytes "!if 0")
     (group (bytes "!ifdef ?") (line (bytes "A") empty)
     (elseif (bytes "!elif 1 / 0") (line (bytes "B") empty)
@@ -67,14 +67,14 @@ unfolding onto endsLine lines named wordStart textStart directiveOf span compare
 whole-derives = record { lines = refl; words = (refl, (refl, tt), (refl, (refl, tt), (refl, (refl, tt), refl)), (refl, tt)) }
 
 pub meanings-hold : _≡_ {A = List Meaning}
-    (meaning (setting "FOO" 61 2) true whole ∷ meaning (setting "FOO" 61 3) true whole ∷ meaning [] true dead ∷ [])
+    (meaning (setting "FOO" 61 2) true whole ∷ meaning (setting "FOO" 61 3) true whole ∷ meaning [] true skipped ∷ [])
     (means (4 ∷ 1 ∷ 2 ∷ 0 ∷ 3 ∷ 0 ∷ 5 ∷ 1 ∷ []) 1 ∷ fault DIVISOR-ZERO 2 ∷ means (3 ∷ 2 ∷ 0 ∷ 2 ∷ 0 ∷ 2 ∷ 2 ∷ 4 ∷ 1 ∷ 5 ∷ []) 0 ∷ [])
 unfolding meaning named wordStart textStart directiveOf evaluate ofExpression ofMacro ofNamed nameAt idle ofAnswer evaluation ofTokens barOutside recordsIn zeros isName wellFormedName wellFormedKind wellFormedRecord wellFormedRecords ascending wellFormed littleEndian settingAt settingUnderAt settingUnder reading readToken readByte readFrom tooDeep checkDepth classOf span compared macroName pcdName digitOf valueIn literal isDecimal isHexadecimal hexadecimalOf numberOf stringOf stringAt spelled isWide wordOf macroOf begins leading lexemeBy lexeme isPrimary isUnary levelOf runGoal parse unaryKind binaryKind choiceKind andDigits orDigits applyUnary applyBinary comparison compareNumbers primaryValue missingPcd unaryValue bothValues binaryValue choiceValue
 meanings-hold = refl
 
 -- which of their lines are read
 pub readings-hold : _≡_ {A = List (List Bool)}
-    (readsOf (setting "FOO" 61 2) true whole ∷ readsOf [] true dead ∷ [])
+    (readsOf (setting "FOO" 61 2) true whole ∷ readsOf [] true skipped ∷ [])
     ((true ∷ false ∷ false ∷ false ∷ true ∷ false ∷ true ∷ false ∷ [])
     ∷ (true ∷ false ∷ false ∷ false ∷ false ∷ false ∷ false ∷ true ∷ false ∷ true ∷ [])
     ∷ [])

@@ -2,7 +2,7 @@
 -- within the table, operators give no strings, and a choice gives one of its arms. Assumes nothing.
 use Prim.Native.Nat.{ℕ}
 use native.Mathlib.Omega.{arith}
-use mathlib.Core.Path.{refl}
+use mathlib.Core.Path.{_≡_, refl}
 use mathlib.Core.Bool.{_||_}
 use mathlib.Core.List.{List}
 use lib.ListN.{length}
@@ -17,10 +17,11 @@ use Rattle.lookup.proofs.Within.{under-within}
 use Rattle.token.specs.Tokens.{Token}
 use Rattle.token.proofs.Within.{Within, tokens-in}
 use Rattle.grammar.proofs.Preserved.{Preserves, preserved}
-use Rattle.value.specs.Values.{settingIn, nameIn, primaryValue}
+use Rattle.value.specs.Values.{Value, settingIn, nameIn, primaryValue}
+use Rattle.value.specs.Places.{InBounds}
 use Rattle.soundness.proofs.Results.{of-unary, of-binary, of-choice}
 use Rattle.expression.specs.Meaning.{codeOf, meaning}
-use Rattle.answers.specs.Answers.{InBounds, StringsInBounds}
+use Rattle.evaluation.specs.Evaluation.{value, evaluation}
 use Rattle.evaluation.proofs.FromTree.{from-tree}
 
 module _ (e t : List ℕ) where
@@ -48,7 +49,7 @@ module _ (e t : List ℕ) where
         choice = λ q c a b _ g h. of-choice (InBounds e t) (λ _. tt) (λ _. tt) (c .value) (a .value) (b .value) g h;
       }
 
-  pub placed : StringsInBounds e t
-  placed v n h =
+  pub strings-in-bounds : (v : Value) (n : ℕ) → evaluation e t ≡ value v n → InBounds e t v
+  strings-in-bounds v n h =
       let r = from-tree e t v n h in
       rw (r .2 .value) (preserved codeOf preserves (r .1) (tokens-in e))

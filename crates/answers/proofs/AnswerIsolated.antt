@@ -1,6 +1,6 @@
--- What an answer depends on (document 01, "For demand 3"): of the table only the records under the names that the expression names, and
--- not where in the table these are, except for the place of a string that is answered. The tree that the tokens derive does not depend on
--- the table, its leaves are tokens of the expression, and no form looks at places.
+-- What an answer depends on (document 01, "For demand 3"): of the table only the records under the names in the expression, and not their
+-- places in the table, except for the place of an answered string. The tree that the tokens derive does not depend on the table, its leaves
+-- are tokens of the expression, and no form depends on places. Assumes nothing.
 use Prim.Native.Nat.{ℕ}
 use mathlib.Core.Path.{_≡_, refl, sym, ap, ap₂, _∙_}
 use mathlib.Core.Bool.{Bool, true}
@@ -38,28 +38,28 @@ abbrev pub erasePlacesIn : Evaluation → Evaluation
 erasePlacesIn (value v n) = value (erasePlaces v) n
 erasePlacesIn (refused r) = refused r
 
--- judging looks at no place
+-- the answer from attributes does not depend on places
 answer-value-erased : (v : Value) (n : ℕ) → erasePlacesIn (answerValue v n) ≡ answerValue (erasePlaces v) n
 answer-value-erased (number x) n = refl
 answer-value-erased (string p s) n = refl
 answer-value-erased (wide p s) n = refl
 answer-value-erased (fault r) n = refl
 
-abbrev Unplaces : Evaluation → Evaluation → Type 0
-Unplaces x y = erasePlacesIn x ≡ y
+abbrev Erases : Evaluation → Evaluation → Type 0
+Erases x y = erasePlacesIn x ≡ y
 
 check-then-answer-erased : (bar : Bool) (a : Attributes) → erasePlacesIn (checkThenAnswer bar a) ≡ checkThenAnswer bar (erasePlacesOf a)
 check-then-answer-erased bar a =
-    pick-both Unplaces bar (λ _. refl)
-    (λ _. pick-both Unplaces (a .missing) (λ _. refl)
-    (λ _. pick-both Unplaces (clashes (a .kind)) (λ _. refl) (λ _. answer-value-erased (a .value) (a .count))))
+    pick-both Erases bar (λ _. refl)
+    (λ _. pick-both Erases (a .missing) (λ _. refl)
+    (λ _. pick-both Erases (clashes (a .kind)) (λ _. refl) (λ _. answer-value-erased (a .value) (a .count))))
 
 -- two attributes are the same except for places
 abbrev Same : Attributes → Attributes → Type 0
 Same a b = erasePlacesOf a ≡ erasePlacesOf b
 
-judged-same : (bar : Bool) (a b : Attributes) → Same a b → erasePlacesIn (checkThenAnswer bar a) ≡ erasePlacesIn (checkThenAnswer bar b)
-judged-same bar a b h = check-then-answer-erased bar a ∙ ap (checkThenAnswer bar) h ∙ sym (check-then-answer-erased bar b)
+check-then-answer-same : (bar : Bool) (a b : Attributes) → Same a b → erasePlacesIn (checkThenAnswer bar a) ≡ erasePlacesIn (checkThenAnswer bar b)
+check-then-answer-same bar a b h = check-then-answer-erased bar a ∙ ap (checkThenAnswer bar) h ∙ sym (check-then-answer-erased bar b)
 
 module _ (e t₁ t₂ : List ℕ) where
   -- the tables have the same record under the name in a token
@@ -85,7 +85,7 @@ module _ (e t₁ t₂ : List ℕ) where
         → erasePlacesIn (answerTokens cs (mapOutcome (fold (meaning e t₁)) o)) ≡ erasePlacesIn (answerTokens cs (mapOutcome (fold (meaning e t₂)) o))
     by-outcome (underived i) p cs = refl
     by-outcome (accepted s) p cs =
-        judged-same (barOutside 0 cs) (fold (meaning e t₁) s) (fold (meaning e t₂) s) (tree-same s (decides (tokens-read e t₁) .sound s p))
+        check-then-answer-same (barOutside 0 cs) (fold (meaning e t₁) s) (fold (meaning e t₂) s) (tree-same s (decides (tokens-read e t₁) .sound s p))
 
     tokens-isolated : erasePlacesIn (ofTokens e t₁ (reading e .tokens)) ≡ erasePlacesIn (ofTokens e t₂ (reading e .tokens))
     unfolding ofTokens

@@ -1,4 +1,5 @@
--- Isolation of a selection: lines that agree are heard the same, and two runs that hear the same go the same way. Assumes nothing.
+-- Isolation of a selection: lines that agree have the same conditions, and two runs with the same conditions have the same result. Assumes
+-- nothing.
 use Prim.Native.Nat.{ℕ, _+_, _≤_}
 use native.Mathlib.Omega.{arith}
 use mathlib.Core.Path.{_≡_, refl, sym, ap, _∙_}
@@ -21,7 +22,7 @@ use Rattle.select.specs.Step.{readCondition, step}
 use Rattle.select.specs.Select.{Result, accepted, refused, start, selection, numberOfLines, Selects}
 use Rattle.select.specs.declared.Answer.{Answer}
 use Rattle.select.specs.declared.Answer.the-variants.{Accepted}
-use Rattle.isolation.specs.Isolation.{Read, Agrees, Isolation, TwoCalls}
+use Rattle.isolation.specs.Isolation.{Read, Agrees, Comparable}
 use Rattle.isolation.proofs.SameConditions.{same-condition}
 use Rattle.isolation.proofs.Simulation.{Like, AllLike, same-run}
 use Rattle.select.proofs.LimitsCorrect.{runs, accepted-runs, accepted-sound}
@@ -33,11 +34,12 @@ agree-like t₁ t₂ sound₁ sound₂ m l₁ l₂ h a =
     record {
       short = h;
       word = a .word;
-      said = λ r. ap (λ l. evaluate t₂ (directiveOf l₁) (textOf l)) (a .bytes r) ∙ sym
+      condition = λ r. ap (λ l. evaluate t₂ (directiveOf l₁) (textOf l)) (a .bytes r) ∙ sym
           (same-condition t₁ t₂ (textOf l₁) sound₁ sound₂ (directiveOf l₁) (a .records r));
     }
 
-pub isolation : Isolation
+pub isolation : (f₁ t₁ : List ℕ) (room₁ : ℕ) (ms : List ℕ) (c : ℕ) → selection f₁ t₁ room₁ ≡ accepted ms c
+    → (f₂ t₂ : List ℕ) (room₂ : ℕ) → Comparable f₁ t₁ ms f₂ t₂ room₂ → selection f₂ t₂ room₂ ≡ accepted ms c
 isolation f₁ t₁ room₁ ms c h f₂ t₂ room₂ k =
     let p = accepted-runs f₁ t₁ room₁ ms c h in
     let like : AllLike t₁ t₂ ms (lines f₁) (lines f₂) = λ i l.
@@ -46,7 +48,7 @@ isolation f₁ t₁ room₁ ms c h f₂ t₂ room₂ k =
     runs f₂ t₂ room₂ (k .sound) (k .small) (omega (arith, p .1, k .as-many)) (k .enough)
     ∙ same-run t₁ t₂ 1 start (lines f₁) (lines f₂) ms c (k .as-many) like (p .0)
 
--- a line's mark tells whether its directive was read
+-- the mark of a line shows whether its directive was read
 module _ (t : List ℕ) (n : ℕ) (s : State) (l : List ℕ) where
   read-above : reads (directiveOf l) (stateOf (s .groups)) ≡ true → Marked (step t n s l)
   unfolding step
@@ -60,7 +62,7 @@ module _ (t : List ℕ) (n : ℕ) (s : State) (l : List ℕ) where
       pick-case Unmarked (ltb 1024 (length l)) (λ _. tt)
       (λ _. unread-marked (directiveOf l) (readCondition t (s .groups) l) n (s .count + countOf (readCondition t (s .groups) l)) (s .groups) h)
 
--- of a step, by the standing of the innermost group
+-- the same for a step, by the state of the innermost group
 abbrev pub MarksTell : Type 0
 MarksTell = (t : List ℕ) (n : ℕ) (s : State) (l : List ℕ) (m : ℕ) (s′ : State) → step t n s l ≡ go m s′
     → (reads (directiveOf l) (stateOf (s .groups)) ≡ true) ↔ Read m
@@ -87,7 +89,11 @@ accepted-call f t marks r left h n c e = by (selection f t (length marks)) refl
         let k : take n left ≡ ms = ap (take n) m ∙ take-at ms (drop (length ms) marks) n i in
         (rw (k, j) q, ap length k ∙ i)
 
-pub two-calls : TwoCalls
+pub two-calls : (f₁ t₁ marks₁ : List ℕ) (r₁ : Answer) (left₁ : List ℕ) → Selects f₁ t₁ marks₁ r₁ left₁
+    → (n c : ℕ) → r₁ ≡ Accepted (record { 0 = n }) c
+    → (f₂ t₂ marks₂ : List ℕ) (r₂ : Answer) (left₂ : List ℕ) → Selects f₂ t₂ marks₂ r₂ left₂
+    → Comparable f₁ t₁ (take n left₁) f₂ t₂ (length marks₂)
+    → (r₂ ≡ Accepted (record { 0 = n }) c) × (take n left₂ ≡ take n left₁)
 two-calls f₁ t₁ marks₁ r₁ left₁ h₁ n c e f₂ t₂ marks₂ r₂ left₂ h₂ k =
     let p = accepted-call f₁ t₁ marks₁ r₁ left₁ h₁ n c e in
     let q = isolation f₁ t₁ (length marks₁) (take n left₁) c (p .0) f₂ t₂ (length marks₂) k in

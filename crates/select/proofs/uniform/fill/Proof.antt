@@ -1,4 +1,4 @@
--- What was passed is filled, the rest is as it was.
+-- The entries before the current one are filled, the rest is as it was.
 use native.Mathlib.Omega.{arith}
 use Prim.Native.Nat.{_-_, _≤_, _<_}
 use mathlib.Core.Path.{_≡_}
@@ -6,8 +6,8 @@ use mathlib.Core.List.{_++_}
 use lib.ListN.{length, drop, replicate}
 use borrow.Author.Fill.{fill-none, fill-more}
 use Rattle.select.proofs.Filled.{all-filled, filled-length}
-use Rattle.select.proofs.fill.fill.Statement.{statement}
-use Rattle.select.proofs.fill.fill.Tie as tie
+use Rattle.select.proofs.uniform.fill.Statement.{statement}
+use Rattle.select.proofs.uniform.fill.Tie as tie
 
 abbrev Inv-loop : tie.InvT-loop
 Inv-loop marks₀ b i₀ marks i = (i ≤ length marks₀) × (marks ≡ replicate i b ++ drop i marks₀)

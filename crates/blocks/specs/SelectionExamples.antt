@@ -1,5 +1,5 @@
 -- The whole case of document 01 ("Lines and directives"): antt computes its marks, its count and its refusal from the definitions. Then
--- the year window of document 00, written as it never holds and as it was meant.
+-- the year window of document 00, in the form that never holds and in the form that was meant.
 use Prim.Native.Nat.{ℕ}
 use Prim.Native.String.{String}
 use mathlib.Core.Path.{_≡_, refl}
@@ -40,7 +40,7 @@ setting name p x = bytes name ++ replicate p 0 ++ (0 ∷ 8 ∷ []) ++ replicate 
 abbrev pub file : List ℕ
 file = bytes "!if $(FOO) == 2\nA\n!elseif 1 / 0\nB\n!else\nC\n!endif\nD\n"
 
--- a watchdog's driver from week 48 to week 5
+-- the driver of a watchdog, from week 48 to week 5
 abbrev pub never : List ℕ
 never = bytes "!if $(WEEK) GE 48 AND $(WEEK) LE 5\nWatchdog\n!endif\n"
 

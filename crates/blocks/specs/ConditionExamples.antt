@@ -26,11 +26,11 @@ use Rattle.value.specs.Values.{primaryValue, missingPcd, unaryValue, bothValues
 use Rattle.evaluation.specs.Evaluation.{evaluation, ofTokens}
 use Rattle.line.specs.declared.Directive.{Directive}
 use Rattle.line.specs.declared.Directive.the-variants.{If, Ifdef, Ifndef, Elseif, Else, Endif}
 use Rattle.condition.specs.Conditions.{idle, ofAnswer, ofExpression, nameAt, ofNamed, ofMacro, evaluate}
 use Rattle.line.specs.declared.Condition.{Condition}
 use Rattle.line.specs.declared.Condition.the-variants.{Holds, Fails, Refused}
 
--- a directive, the text after its word, and what it says
+-- a directive, the text after its word, and its condition
 pub record Example : Type 0 where
   pub directive : Directive
   pub text : String
@@ -83,7 +83,7 @@ texts-hold : map (λ x. evaluate [] (x .directive) (bytes (x .text))) texts ≡ 
 unfolding evaluate ofMacro ofNamed nameAt idle span macroName recordsIn settingUnderAt settingUnder
 texts-hold = refl
 
--- A = 0: its name and 63 zeros, the kind, a length of 8, and zeros
+-- A = 0: the name and 63 zeros, the kind, a length of 8, and zeros
 abbrev table : List ℕ
 table = bytes "A" ++ (replicate 64 0 ++ (8 ∷ replicate 62 0))
 
@@ -91,7 +91,7 @@ well-formed-table : wellFormed table ≡ true
 unfolding span compared macroName pcdName recordsIn zeros isName wellFormedName wellFormedKind wellFormedRecord wellFormedRecords ascending wellFormed
 well-formed-table = refl
 
--- whether a name is there, whatever stands under it
+-- whether a name is in the table, whatever its setting
 abbrev names : List Example
 names =
     reads Ifdef " A" (Holds 0)
