@@ -35,7 +35,7 @@ extern "C" {
 uint8_t korzhinay_table(const uint8_t *table, size_t table_len);
 
 /* Looks up a name in a table: 0 and the answer, or the refusal number 1 if the table is malformed; out then stays as it was. The name is
- * without padding and, if it is a macro's, without `$(` and `)`. No table has bytes that are no name, or more than 64 of them.
+ * without padding and, if it is a macro's, without `$(` and `)`. Bytes that are no name, and names of more than 64 bytes, are in no table.
  *   out[0]  the kind, one of enum korzhinay_kind; 255 if there is no such name
  *   out[1]  the number; for a string, of either kind, the offset in the table at which its bytes start, also if it is empty; 0 if there is
  *           no such name

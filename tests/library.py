@@ -11,7 +11,7 @@ LIB.korzhinay_field.restype = ctypes.c_uint8
 LIB.korzhinay_select.restype = ctypes.c_uint8
 SIZE = ctypes.c_size_t
 
-# What stands in a lent array before a call: entries that a call must not write have to keep it.
+# What is in a lent array before a call: entries that a call must not write have to keep it.
 CODE, START, LENGTH, VALUE = 0xA5, 0xA5A5, 0x5A5A, 0xA5A5A5A5A5A5A5A5
 
 
@@ -51,7 +51,7 @@ def evaluate(expression, table):
 
 
 def untouched(length):
-    """What stands in a field's buffer before the call: no byte is that of its neighbours, or zero."""
+    """What is in a field's buffer before the call: no byte is that of its neighbours, or zero."""
     return bytes(1 + 7 * i % 251 for i in range(length))
 
 
@@ -70,7 +70,7 @@ def field(expression, table, datum, room):
 
 
 def unmarked(length):
-    """What stands in the marks before the call: no byte is a mark, or that of its neighbours."""
+    """What is in the marks before the call: no byte is a mark, or that of its neighbours."""
     return bytes(6 + 7 * i % 241 for i in range(length))
 
 

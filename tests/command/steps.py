@@ -31,7 +31,7 @@ OTHERS = [record(b"D", 1, b"\r"), record(b"E", 2, b"\n"), record(b"F", 1, b"\"'"
 
 
 def listing_is_read_back():
-    """A table, listed and read again, is the same table but for the strings that no quotes can hold."""
+    """A table, listed and read again, is the same table, except for strings that no quotes can hold."""
     table = b"".join(NUMBERS + STRINGS + OTHERS + PCD)
     listing, errors, status = answer(["table", "-"], input=table)
     yield "a table is listed", (errors, status), (b"", 0)
@@ -103,8 +103,8 @@ def table_through_a_link():
 
 
 def unusable_streams():
-    """A standard stream that is closed, or open the other way, is told; it is never taken for an empty one or for one that was written."""
-    told = " (os error 9)\n"
+    """A standard stream that is closed, or open the other way, is reported; it is never taken for an empty one or for one that was written."""
+    reported = " (os error 9)\n"
     file = "examples/window-right.dsc"
     for arguments, stream in (("select -", "0"), ("select -s - " + file, "0"), ("select -t - " + file, "0"), ("eval 1", "1"),
                               ("select -s examples/buoy.settings " + file, "1"), ("table -D A -o -", "1"), ("--help", "1")):
@@ -113,7 +113,7 @@ def unusable_streams():
         for redirection in ("%s>&-" % stream, other_way):
             done = subprocess.run("exec %s %s %s" % (shlex.quote(COMMAND), arguments, redirection), shell=True, cwd=ROOT, stdin=subprocess.DEVNULL,
                                   capture_output=True, text=True, timeout=SECONDS)
-            wanted = ("", "korzhinay: %s: Bad file descriptor%s" % (name, told), 2)
+            wanted = ("", "korzhinay: %s: Bad file descriptor%s" % (name, reported), 2)
             yield "%s with %s" % (arguments, redirection), (done.stdout, done.stderr, done.returncode), wanted
 
 

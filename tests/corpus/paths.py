@@ -1,5 +1,5 @@
-"""What run.py makes of folders and paths: a path that reads like an answer is told from the answer, and a folder that is missing is said
-to be missing. The last line says how many passed and how many failed."""
+"""What run.py makes of folders and paths: a path that reads like an answer is told apart from the answer, and a missing folder is reported.
+The last line says how many passed and how many failed."""
 import os
 import subprocess
 import sys
@@ -32,15 +32,15 @@ with tempfile.TemporaryDirectory() as folder:
         with open(path, "wb") as file:
             file.write(content)
     lines, status = report(folder)
-    told = [line for _, line in FILES.values()]
-    check("paths that read like answers", (lines[:-2], lines[-1], status), (told, "4 passed, 0 failed", 0))
+    reports = [line for _, line in FILES.values()]
+    check("paths that read like answers", (lines[:-2], lines[-1], status), (reports, "4 passed, 0 failed", 0))
 
-    # As an expected report they are read back, but for names that are no UTF-8.
+    # As an expected report they are read back, except for names that are not UTF-8.
     expected = os.path.join(folder, "expected.txt")
     os.remove(os.path.join(os.fsencode(folder), b"c\x01\xff\xc3.dsc"))
-    for line, passed in (told[1], "3 passed, 0 failed"), (told[1].replace("(15)", "(14)"), "2 passed, 1 failed"):
+    for line, passed in (reports[1], "3 passed, 0 failed"), (reports[1].replace("(15)", "(14)"), "2 passed, 1 failed"):
         with open(expected, "w", encoding="utf-8") as file:
-            file.writelines(each + "\n" for each in (told[0], line, told[3]))
+            file.writelines(each + "\n" for each in (reports[0], line, reports[3]))
         check("an expected report", report("--expected", expected, folder)[0][-1], passed)
 
     table = os.path.join(folder, "bad.bin")

@@ -1,6 +1,6 @@
 """Asks the command about every description file of a folder: run.py [--expected REPORT] FOLDER [OPTION].., the options being those of
 `korzhinay select`. Each file is accepted or refused, with the line and the meaning. A crash, a run without an end, any other exit status
-and an answer that has not one mark for each line are failures; so is, with --expected, a line that is not in that report as it stands.
+and an answer that has not one mark for each line are failures; so is, with --expected, a line that is not in that report.
 The last line says how many files passed and failed; a folder without any, and one that is not there, is a failure too."""
 import collections
 import os

@@ -1,4 +1,4 @@
-"""The table of data fields: code and type name one field, which takes what the row tells, in so many bytes."""
+"""The table of data fields: code and type name one field, which takes what the row says, in this many bytes."""
 import library
 from manual import codes, matched, number, rows
 from product import ask

@@ -22,7 +22,7 @@ def records(count):
     return b"".join(written(RECORD, b"A%04d" % each, 0, bytes(8)) for each in range(count))
 
 
-# Of each input: its limits as they are written, and for each number how it is asked, with what input of so many, the answer at the limit
+# Of each input: its limits as they are written, and for each number the call that meets it, an input of that size, the answer at the limit
 # and the one past it. Blanks, plus signs and open parentheses are no expression (7).
 LIMITS = {
     "an expression": (

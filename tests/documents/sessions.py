@@ -11,7 +11,7 @@ import subprocess
 ROOT = os.path.dirname(os.path.dirname(os.path.dirname(os.path.abspath(__file__))))
 PROMPT, CONTINUED = "$ ", "> "
 
-# Where an example stands, its command, and what it has to print, all as text.
+# The place of an example, its command, and what it has to print, all as text.
 Example = collections.namedtuple("Example", "place section command wanted")
 
 

@@ -23,7 +23,7 @@ def product(a, b):
 
 
 def shifted_left(a, b):
-    # Past 64 nothing is left to be told apart, and Python would run out of memory.
+    # Past 64 all results are the same, and Python would run out of memory.
     return bounded(a * 2 ** min(b, 64))
 
 

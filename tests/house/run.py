@@ -1,4 +1,4 @@
-"""What can be told of the repository from its text alone: run.py [NAME]... The names are those of the parts: crates, width, edits,
+"""What can be checked of the repository by its text alone: run.py [NAME]... The names are those of the parts: crates, width, edits,
 promises. The last line says how many passed and how many failed."""
 import os
 import sys

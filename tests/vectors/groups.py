@@ -94,7 +94,7 @@ TAKEN = [
     (b"!if 0|!if 1|!endif|!else|!if 0|!else|a|!endif|b|!endif", ("3224341515", 0)),
 ]
 
-# What is not read is not looked at, whatever stands there.
+# What is not read is not looked at, whatever it is.
 UNREAD = [
     # `!elseif` after a taken branch
     (b"!if 1|!elseif 1 / 0|!endif", ("425", 0)),  # R33

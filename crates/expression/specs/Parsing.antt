@@ -33,7 +33,7 @@ found e t (Got a j) = got (denoteAttributes e t a) (j .0)
 abbrev pub Parses : (e t cs ss ls vs : List ℕ) (n : ℕ) → Parsed → Type 0
 Parses e t cs ss ls vs n r = Yields codeOf (meaning e t) (tokenAt cs ss ls vs n) n (find expression 0) (found e t r)
 
--- the arrays have n tokens, 200 at most
+-- the arrays have n tokens, at most 200
 pub record Holding (cs ss ls vs : List ℕ) (n : ℕ) : Type 0 where
   pub few : n ≤ 200
   pub codes : n ≤ length cs

@@ -80,7 +80,7 @@ module _ (i : Input) (most : ℕ) where
   Does choice x s go = OnThree s go
   Does filler x s go = go s
 
-  -- from the stack s the entries leave v alone
+  -- from the stack s, the entries leave only v
   abbrev pub Gives : List Attributes → List ℕ → Attributes → Type 0
   Gives s [] v = s ≡ v ∷ []
   Gives s (x ∷ k) v = Does (entryOf i x) x s (λ u. Gives u k v)

@@ -1,6 +1,6 @@
 -- Isolation (document 00, demand 3; document 01, "For demand 3"): an accepted selection depends on the directives that it reads, on the
--- records under the names in these, and on the words of the lines; on nothing else in the file or the table. Here is when a second file and
--- table are comparable; proofs/SelectionIsolated.antt shows that they give the same selection.
+-- records under the names in these, and on the words of the lines; on nothing else in the file or the table. This file defines when a
+-- second file and table are comparable; proofs/SelectionIsolated.antt shows that they give the same selection.
 use Prim.Native.Nat.{ℕ, _≤_, _<_}
 use mathlib.Core.Path.{_≡_}
 use mathlib.Core.Bool.{true}

@@ -36,11 +36,11 @@ pub record HandsText (l r : RefT (List ℕ)) : Type 0 where
   pub block : ptr r .0 ≡ ptr l .0
   pub offset : textStart (now l) ≤ length (now l) → ptr r .1 ≡ ptr l .1 + textStart (now l)
 
--- The end of the line that starts at a byte and has its LF, or else the end of the file, at byte lf: a CR of the line directly before an LF
--- is dropped.
+-- The end of the line that starts at byte `from` and whose LF, or else the end of the file, is at byte `lf`: a CR of the line directly before
+-- an LF is dropped.
 unfoldable pub lineEnd : List ℕ → ℕ → ℕ → ℕ
 lineEnd f from lf = pick (ltb lf (length f) && (ltb from lf && eqb (getD f (lf - 1) 0) (byte "\r"))) (lf - 1) lf
 
--- Whether a line that began before byte i has not ended there.
+-- Whether there is a byte before byte i and it is no LF, so that a line began before byte i and has not ended.
 unfoldable pub opened : List ℕ → ℕ → Bool
 opened f i = ltb 0 i && not (eqb (getD f (i - 1) 0) (byte "\n"))

@@ -1,5 +1,5 @@
--- The directive of a line, by its word (document 01, "Lines and directives"); a line without one is plain. A word is the run of letters
--- after a `!` that is the first byte of the line that is no blank.
+-- The directive of a line, by its word (document 01, "Lines and directives"); a line whose first byte that is no blank
+-- is not `!` is plain. The word is the run of letters after this `!`.
 use Prim.Native.Nat.{ℕ, _+_}
 use Prim.Native.String.{String}
 use mathlib.Core.List.{List, [], _∷_}

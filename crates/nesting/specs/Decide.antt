@@ -36,7 +36,7 @@ pub data Outcome : Type 0 where
   go : (mark : ℕ) → State → Outcome
   stop : ℕ → Outcome
 
--- the open groups with the innermost one changed
+-- the open groups with the innermost one in another state, with its `!else` seen, or removed
 abbrev pub switchTo : GroupState → List Group → List Group
 switchTo s [] = []
 switchTo s (group w b n ∷ gs) = group s b n ∷ gs

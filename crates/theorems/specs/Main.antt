@@ -148,8 +148,9 @@ innermost-is-one-line = one-innermost
 
 -- ISOLATION (demand 3)
 
--- A second selection has the same marks and count as an accepted one if its file has the same words line by line, the directives that the
--- first one read have the same bytes, the tables have the same records under the names in these, and the second file is within the limits.
+-- A second selection has the same marks and count as an accepted one if its file has as many lines, with the same words, the directives
+-- that the first one read have the same bytes, the tables have the same records under the names in these, the second table is well formed,
+-- and the second file, its lines and its marks keep the limits of 14, 17 and 16.
 pub isolated : (f₁ t₁ : List ℕ) (room₁ : ℕ) (ms : List ℕ) (c : ℕ) → selection f₁ t₁ room₁ ≡ accepted ms c
     → (f₂ t₂ : List ℕ) (room₂ : ℕ) → Comparable f₁ t₁ ms f₂ t₂ room₂ → selection f₂ t₂ room₂ ≡ accepted ms c
 isolated = isolation
@@ -162,7 +163,7 @@ pub isolated-calls : (f₁ t₁ marks₁ : List ℕ) (r₁ : Answer) (left₁ : 
     → (r₂ ≡ Accepted (record { 0 = n }) c) × (take n left₂ ≡ take n left₁)
 isolated-calls = two-calls
 
--- THE PARSER, which no statement above mentions
+-- THE PARSER, which no statement above mentions, AND THE GRAMMAR, for tokens of any type
 
 -- Over any algebra the parser accepts with exactly what the tree of the tokens folds to, and refuses exactly if there is no tree.
 pub parser-accepts : {K A : Type 0} {code : K → ℕ} {ts : List K} {tok : ℕ → K} → Reads code ts tok → (alg : Algebra K A) (a : A)
@@ -174,9 +175,9 @@ pub parser-refuses : {K A : Type 0} {code : K → ℕ} {ts : List K} {tok : ℕ 
 parser-refuses reads alg = evaluates reads alg .refused-exactly
 
 -- An algebra that counts at most one per operator counts fewer than there are tokens.
-pub counts-below-tokens : {K A : Type 0} (code : K → ℕ) (alg : Algebra K A) (count : A → ℕ) → Counts alg count
+pub algebra-counts-below-tokens : {K A : Type 0} (code : K → ℕ) (alg : Algebra K A) (count : A → ℕ) → Counts alg count
     → (ts : List K) (s : Tree K) → Derives code expression ts s → count (fold alg s) < length ts
-counts-below-tokens = bounded
+algebra-counts-below-tokens = bounded
 
 -- The tokens have a bar outside parentheses exactly if their derivation has one.
 pub bars-are-seen : {K : Type 0} (code : K → ℕ) {ts : List K} {s : Tree K} (d : Derives code expression ts s)
