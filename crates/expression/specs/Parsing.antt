@@ -43,5 +43,5 @@ pub record Holding (cs ss ls vs : List ℕ) (n : ℕ) : Type 0 where
 
 -- the precondition: the table is well formed, and the arrays have n tokens
 pub record Ready (t cs ss ls vs : List ℕ) (n : ℕ) : Type 0 where
-  pub sound : wellFormed t ≡ true
+  pub well-formed : wellFormed t ≡ true
   pub holding : Holding cs ss ls vs n

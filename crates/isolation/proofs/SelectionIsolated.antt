@@ -25,7 +25,7 @@ use Rattle.select.specs.declared.Answer.the-variants.{Accepted}
 use Rattle.isolation.specs.Isolation.{Read, Agrees, Comparable}
 use Rattle.isolation.proofs.SameConditions.{same-condition}
 use Rattle.isolation.proofs.Simulation.{Like, AllLike, same-run}
-use Rattle.select.proofs.LimitsCorrect.{runs, accepted-runs, accepted-sound}
+use Rattle.select.proofs.LimitsCorrect.{runs, accepted-runs, accepted-well-formed}
 
 -- lines that agree are alike
 agree-like : (t₁ t₂ : List ℕ) → wellFormed t₁ ≡ true → wellFormed t₂ ≡ true
@@ -43,9 +43,9 @@ pub isolation : (f₁ t₁ : List ℕ) (room₁ : ℕ) (ms : List ℕ) (c : ℕ)
 isolation f₁ t₁ room₁ ms c h f₂ t₂ room₂ k =
     let p = accepted-runs f₁ t₁ room₁ ms c h in
     let like : AllLike t₁ t₂ ms (lines f₁) (lines f₂) = λ i l.
-    agree-like t₁ t₂ (accepted-sound f₁ t₁ room₁ ms c h) (k .sound) (getD ms i 0) (getD (lines f₁) i []) (getD (lines f₂) i [])
+    agree-like t₁ t₂ (accepted-well-formed f₁ t₁ room₁ ms c h) (k .well-formed) (getD ms i 0) (getD (lines f₁) i []) (getD (lines f₂) i [])
     (k .short i (omega (arith, k .as-many))) (k .agrees i l) in
-    runs f₂ t₂ room₂ (k .sound) (k .small) (omega (arith, p .1, k .as-many)) (k .enough)
+    runs f₂ t₂ room₂ (k .well-formed) (k .small) (omega (arith, p .1, k .as-many)) (k .enough)
     ∙ same-run t₁ t₂ 1 start (lines f₁) (lines f₂) ms c (k .as-many) like (p .0)
 
 -- the mark of a line shows whether its directive was read

@@ -59,7 +59,7 @@ pub record Agrees (t₁ t₂ : List ℕ) (m : ℕ) (l₁ l₂ : List ℕ) : Type
 pub record Comparable (f₁ t₁ : List ℕ) (ms : List ℕ) (f₂ t₂ : List ℕ) (room : ℕ) : Type 0 where
   pub as-many : length (lines f₂) ≡ length (lines f₁)
   pub agrees : (i : ℕ) → i < length (lines f₁) → Agrees t₁ t₂ (getD ms i 0) (getD (lines f₁) i []) (getD (lines f₂) i [])
-  pub sound : wellFormed t₂ ≡ true
+  pub well-formed : wellFormed t₂ ≡ true
   pub small : length f₂ ≤ MAX-FILE
   pub short : (i : ℕ) → i < length (lines f₂) → length (getD (lines f₂) i []) ≤ 1024
   pub enough : length (lines f₂) ≤ room

@@ -43,7 +43,7 @@ module _ (f t : List ℕ) (room : ℕ) where
         runs h = rw (sound, le-ltb 65536 (length f) small, le-ltb 4096 (length (lines f)) few, le-ltb room (length (lines f)) h)
 
         pub fit : length (lines f) ≤ room → ChecksLimits f t room 0
-        fit h = record { refuses = λ z. absurd (z refl); passes = λ _. record { sound = sound; few = few; enough = h; runs = runs h } }
+        fit h = record { refuses = λ z. absurd (z refl); passes = λ _. record { well-formed = sound; few = few; enough = h; runs = runs h } }
 
 -- a refusal is not accepted
 pub never : (A : Type 0) (k n : ℕ) (ms : List ℕ) (c : ℕ) → refused k n ≡ accepted ms c → A
@@ -65,9 +65,9 @@ accepted-runs f t room ms c h =
     by true false false q false h = (h, ltb-false 4096 (length (lines f)) q)
     by false b d q e h = never _ 1 0 ms c h
 
-pub accepted-sound : (f t : List ℕ) (room : ℕ) (ms : List ℕ) (c : ℕ) → selection f t room ≡ accepted ms c → wellFormed t ≡ true
+pub accepted-well-formed : (f t : List ℕ) (room : ℕ) (ms : List ℕ) (c : ℕ) → selection f t room ≡ accepted ms c → wellFormed t ≡ true
 unfolding selection
-accepted-sound f t room ms c h = by (wellFormed t) _ h
+accepted-well-formed f t room ms c h = by (wellFormed t) _ h
   where
     by : (a : Bool) (x : Result) → pick a x (refused 1 0) ≡ accepted ms c → a ≡ true
     by true x h = refl

@@ -34,7 +34,7 @@ pub record Runs (f t marks : List ℕ) (r : Answer) (marks′ : List ℕ) : Type
 
 -- the checks before any line have passed: then the selection is the run over the lines
 pub record WithinLimits (f t : List ℕ) (room : ℕ) : Type 0 where
-  pub sound : wellFormed t ≡ true
+  pub well-formed : wellFormed t ≡ true
   pub few : length (lines f) ≤ MAX-LINES
   pub enough : length (lines f) ≤ room
   pub runs : selection f t room ≡ run t 1 start (lines f)

@@ -216,7 +216,7 @@ token-at-requires c κs =
 of-primary-requires : tie.Need-of-primary-requires Inv-loop μ-loop
 of-primary-requires c κs =
     let start = start-of (c .before .before .before .before .before .before) in
-    start .pre .ready .sound
+    start .pre .ready .well-formed
 
 store-requires : tie.Need-store-requires Inv-loop μ-loop
 store-requires c κs =

@@ -26,7 +26,7 @@ returns c =
     (check-limits .ensures .refuses (if1 .taken)) (c .refused .ensures) (fill .last .0) (fill .ensures)
 
 run-requires : tie.Need-run-requires
-run-requires c κs = let q = c .before .before .check-limits .ensures .passes (c .before .if1 .left) in (q .sound, q .enough, q .few)
+run-requires c κs = let q = c .before .before .check-limits .ensures .passes (c .before .if1 .left) in (q .well-formed, q .enough, q .few)
 
 enum-told : tie.Need-enum-told
 enum-told c = search needs
