@@ -24,8 +24,10 @@ answer-tokens-requires c κs =
     let scan = c .before .before .before .before .before .before .before .before .before .before .before .before .before in
     let start = scan .before .before .before .before .before .before .before .before .before .before in
     let learnt = scan .tokens .ensures in
-    record { well-formed = start .pre .0; holding = holding (start .args .expr .now) (start .args .table .now) (start .pre .1)
-        (learnt .tokens) _ (learnt .count) }
+    record {
+      well-formed = start .pre .0;
+      holding = holding (start .args .expr .now) (start .args .table .now) (start .pre .1) (learnt .tokens) _ (learnt .count);
+    }
 
 same-length : tie.Need-same-length
 same-length c =
