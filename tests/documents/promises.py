@@ -213,9 +213,12 @@ class Page:
         constants = self.constants()
         reading = [path for path in self.listed if path not in constants]
         imports = sum(len(re.findall(r"^use ", self.files[path].text, re.M)) for path in reading if path in self.files)
-        counted = sum(map(self.lines_of, reading)), len(reading), imports
+        # each definition that is passed over counts with the blank line after it
+        blank = sum(len(re.findall(r"^$", self.files[path].text.rstrip("\n"), re.M)) - len(self.passed_over(path)) for path in reading if path in self.files)
+        lines = sum(map(self.lines_of, reading))
+        counted = lines, len(reading), imports, blank, lines - imports - blank
         besides = sum(map(self.lines_of, constants)), sum(self.types.lines.values())
-        together = "Together %d lines in %d files, %d of them imports; " % counted
+        together = "Together %d lines in %d files: %d are imports, %d are blank, %d say something; " % counted
         return together + "besides these %d lines of constants and %d lines of declared types.\n" % besides
 
     def made(self):

@@ -4,12 +4,13 @@ use Prim.Native.Nat.{ℕ}
 use Prim.Native.String.{String}
 use mathlib.Core.Path.{_≡_, refl}
 use mathlib.Core.List.{List, [], _∷_, map}
+use Rattle.units.specs.Dialects.{STRICT}
 use Rattle.units.specs.Refusals.{BAR-OUTSIDE, KINDS-UNSUITED, RESULT-RANGE}
 use Rattle.text.specs.Bytes.{bytes, classOf}
 use Rattle.text.specs.Runs.{span}
 use Rattle.text.specs.Order.{compared}
 use Rattle.text.specs.Names.{macroName, pcdName}
-use Rattle.settings.specs.Table.{recordsIn, wellFormedRecords, ascending, wellFormed}
+use Rattle.settings.specs.Table.{recordsIn, orderedNames, ordered, plainRecords, wellFormed}
 use Rattle.literal.specs.Literal.{digitOf, valueIn, literal, isDecimal, isHexadecimal, hexadecimalOf, numberOf}
 use Rattle.lexeme.specs.Lexeme.{stringOf, stringAt, spelled, isWide, wordOf, macroOf, begins, leading, lexemeBy, lexeme}
 use Rattle.token.specs.Tokens.{readToken, readByte, readFrom, tooDeep, checkDepth, reading}
@@ -18,10 +19,11 @@ use Rattle.arithmetic.specs.Operators.{applyUnary, applyBinary, comparison, com
 use Rattle.codes.specs.Levels.{isUnary, levelOf}
 use Rattle.grammar.specs.Grammar.{isPrimary}
 use Rattle.grammar.specs.Parse.{run, parse}
+use Rattle.value.specs.Places.{over}
 use Rattle.value.specs.Kinds.{unaryKind, binaryKind, choiceKind}
-use Rattle.value.specs.Values.{number, primaryValue, missingPcd, unaryValue, bothValues, binaryValue, choiceValue}
+use Rattle.value.specs.Values.{number, primaryValue, hasMissingPcd, unaryValue, bothValues, binaryValue, choiceValue}
 use Rattle.grammar.specs.Bars.{barOutside}
-use Rattle.evaluation.specs.Evaluation.{Evaluation, value, refusedWith, evaluation, ofTokens}
+use Rattle.evaluation.specs.Evaluation.{Evaluation, value, refusedWith, evaluationIn, evaluation, ofTokens}
 
 -- an expression and its answer
 pub record Example : Type 0 where
@@ -52,6 +54,6 @@ examples =
     ∷ gives "\"thirty\" < \"thirty1\"" 1 1
     ∷ []
 
-pub examples-hold : map (λ x. evaluation (bytes (x .expression)) []) examples ≡ map (λ x. x .answer) examples
-unfolding evaluation ofTokens barOutside recordsIn wellFormedRecords ascending wellFormed reading readToken readByte readFrom tooDeep checkDepth classOf span compared macroName pcdName digitOf valueIn literal isDecimal isHexadecimal hexadecimalOf numberOf stringOf stringAt spelled isWide wordOf macroOf begins leading lexemeBy lexeme isPrimary isUnary levelOf run parse unaryKind binaryKind choiceKind andDigits orDigits applyUnary applyBinary comparison compareNumbers primaryValue missingPcd unaryValue bothValues binaryValue choiceValue
+pub examples-hold : map (λ x. evaluation (over (bytes (x .expression)) []) STRICT) examples ≡ map (λ x. x .answer) examples
+unfolding evaluation evaluationIn ofTokens barOutside recordsIn orderedNames ordered plainRecords wellFormed reading readToken readByte readFrom tooDeep checkDepth classOf span compared macroName pcdName digitOf valueIn literal isDecimal isHexadecimal hexadecimalOf numberOf stringOf stringAt spelled isWide wordOf macroOf begins leading lexemeBy lexeme isPrimary isUnary levelOf run parse unaryKind binaryKind choiceKind andDigits orDigits applyUnary applyBinary comparison compareNumbers primaryValue hasMissingPcd unaryValue bothValues binaryValue choiceValue
 examples-hold = refl

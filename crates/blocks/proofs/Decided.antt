@@ -7,9 +7,10 @@ use mathlib.Core.Path.{_≡_, sym, _∙_}
 use mathlib.Core.Bool.{true}
 use mathlib.Core.List.{List, [], append-nil}
 use lib.ListN.{length}
+use Rattle.units.specs.declared.Dialect.{Dialect}
 use Rattle.settings.specs.Table.{wellFormed}
 use Rattle.line.specs.Lines.{lines}
-use Rattle.nesting.specs.Decide.{state}
+use Rattle.groups.specs.Groups.{state}
 use Rattle.select.specs.Select.{accepted, refused, run, start, selection}
 use Rattle.select.proofs.LimitsCorrect.{never, runs, accepted-runs}
 use Rattle.blocks.specs.Blocks.{Blocks, linesOf, Derives, depth}
@@ -23,17 +24,17 @@ pub unambiguous : (ls : List (List ℕ)) (a b : Blocks) → Derives ls a → Der
 unambiguous ls a b p q = same-blocks a (p .words) b (q .words) [] [] tt tt (simp append-nil (sym (p .lines) ∙ q .lines)) .0
 
 -- a meaning with no line after it
-follow-end : (t : List ℕ) (a : Meaning) → follow 1 0 a (λ n k. run t n (state [] k) []) ≡ resultOf a
+follow-end : (t : List ℕ) (δ : Dialect) (a : Meaning) → follow 1 0 a (λ n k. run t n (state [] k) [] δ) ≡ resultOf a
 unfolding run
-follow-end t (means ms c) = onto-accepted ms [] (0 + c) ∙ rw (append-nil, zero-add)
-follow-end t (fault r i) = rw (add-comm 1 i)
+follow-end t δ (means ms c) = onto-accepted ms [] (0 + c) ∙ rw (append-nil, zero-add)
+follow-end t δ (fault r i) = rw (add-comm 1 i)
 
-pub run-complete : (t : List ℕ) (ls : List (List ℕ)) (bs : Blocks) → Derives ls bs → depth bs ≤ 16 → WithinLimit ls
-    → run t 1 start ls ≡ resultOf (meaning t true bs)
-run-complete t ls bs d h s =
+pub run-complete : (t : List ℕ) (δ : Dialect) (ls : List (List ℕ)) (bs : Blocks) → Derives ls bs → depth bs ≤ 16 → WithinLimit ls
+    → run t 1 start ls δ ≡ resultOf (meaning t true bs δ)
+run-complete t δ ls bs d h s =
     let w : WithinLimit (linesOf bs) = rw (d .lines) at s in
-    let e = blocks-go t bs (d .words) w [] (omega arith) [] 1 0 in
-    rw (d .lines) (rw append-nil at e ∙ follow-end t (meaning t true bs))
+    let e = blocks-go t δ bs (d .words) w [] (omega arith) [] 1 0 in
+    rw (d .lines) (rw append-nil at e ∙ follow-end t δ (meaning t true bs δ))
 
 -- the meaning of lines, from their result
 pub accepted-means : (a : Meaning) (ms : List ℕ) (c : ℕ) → resultOf a ≡ accepted ms c → a ≡ means ms c
@@ -48,17 +49,17 @@ refused-means (fault k j) r i e =
     let z : j ≡ i = omega arith in
     rw (p, z)
 
-pub complete : (f t : List ℕ) (room : ℕ) (bs : Blocks)
+pub complete : (f t : List ℕ) (δ : Dialect) (room : ℕ) (bs : Blocks)
     → wellFormed t ≡ true → length f ≤ 65536 → length (lines f) ≤ 4096 → length (lines f) ≤ room
-    → Derives (lines f) bs → depth bs ≤ 16 → WithinLimit (lines f) → selection f t room ≡ resultOf (meaning t true bs)
-complete f t room bs sound small few enough d h s = runs f t room sound small few enough ∙ run-complete t (lines f) bs d h s
+    → Derives (lines f) bs → depth bs ≤ 16 → WithinLimit (lines f) → selection f t room δ ≡ resultOf (meaning t true bs δ)
+complete f t δ room bs sound small few enough d h s = runs f t δ room sound small few enough ∙ run-complete t δ (lines f) bs d h s
 
-pub sound : (f t : List ℕ) (room : ℕ) (ms : List ℕ) (c : ℕ) → selection f t room ≡ accepted ms c
-    → (bs : Blocks) × Derives (lines f) bs × (depth bs ≤ 16) × WithinLimit (lines f) × (meaning t true bs ≡ means ms c)
-sound f t room ms c e =
-    let r = accepted-runs f t room ms c e .0 in
-    let w = accepted-follows t (lines f) 1 start ms c (omega arith) r in
+pub sound : (f t : List ℕ) (δ : Dialect) (room : ℕ) (ms : List ℕ) (c : ℕ) → selection f t room δ ≡ accepted ms c
+    → (bs : Blocks) × Derives (lines f) bs × (depth bs ≤ 16) × WithinLimit (lines f) × (meaning t true bs δ ≡ means ms c)
+sound f t δ room ms c e =
+    let r = accepted-runs f t δ room ms c e .0 in
+    let w = accepted-follows t δ (lines f) 1 start ms c (omega arith) r in
     let bs = w .0 .blocks in
     let d : Derives (lines f) bs = record { lines = w .0 .lines ∙ rw (w .0 .next, append-nil); words = w .0 .fits } in
     let h : depth bs ≤ 16 = omega (arith, w .0 .deep) in
-    (bs, d, h, w .1, accepted-means (meaning t true bs) ms c (sym (run-complete t (lines f) bs d h (w .1)) ∙ r))
+    (bs, d, h, w .1, accepted-means (meaning t true bs δ) ms c (sym (run-complete t δ (lines f) bs d h (w .1)) ∙ r))

@@ -3,6 +3,7 @@ use Prim.Native.Nat.{ℕ, _≤_}
 use mathlib.Core.Path.{_≡_}
 use mathlib.Core.Bool.{Bool, true, false, not, _&&_}
 use mathlib.Core.List.{List}
+use Rattle.units.specs.declared.Dialect.{Dialect}
 use Rattle.text.specs.Bytes.{pick}
 use Rattle.line.specs.Directives.{directiveOf, textOf}
 use Rattle.line.specs.declared.Directive.the-variants.{Elseif, Else, Endif}
@@ -46,29 +47,29 @@ closing-sorted true (Holds n) h = tt
 closing-sorted true (Fails n) h = tt
 closing-sorted true (Refused r) h = h
 
-module _ (t : List ℕ) where
+module _ (t : List ℕ) (δ : Dialect) where
   mutual
     unfolding meaning
 
-    blocks-sorted : (bs : Blocks) (around : Bool) → Sorted (meaning t around bs)
+    blocks-sorted : (bs : Blocks) (around : Bool) → Sorted (meaning t around bs δ)
     blocks-sorted empty around = tt
-    blocks-sorted (line l bs) around = then-sorted (single (pick around 1 0) 0) (meaning t around bs) tt (blocks-sorted bs around)
+    blocks-sorted (line l bs) around = then-sorted (single (pick around 1 0) 0) (meaning t around bs δ) tt (blocks-sorted bs around)
     blocks-sorted (group l body os bs) around =
-        let c : Condition = evaluate t (directiveOf l) (textOf l) in
-        let m : Meaning = branch around c false (λ b. meaning t b body) (λ b. branches t around b os) in
-        let h = branch-sorted (λ b. meaning t b body) (λ b. branches t around b os) (λ b. blocks-sorted body b) (λ b. branches-sorted os around b)
-        around c false (in-condition t (directiveOf l) (textOf l)) in
-        then-sorted m (meaning t around bs) h (blocks-sorted bs around)
+        let c : Condition = evaluate t (directiveOf l) (textOf l) δ in
+        let m : Meaning = branch around c false (λ b. meaning t b body δ) (λ b. branches t around b os δ) in
+        let h = branch-sorted (λ b. meaning t b body δ) (λ b. branches t around b os δ) (λ b. blocks-sorted body b) (λ b. branches-sorted os around b)
+        around c false (in-condition t δ (directiveOf l) (textOf l)) in
+        then-sorted m (meaning t around bs δ) h (blocks-sorted bs around)
 
-    branches-sorted : (os : Branches) (around taken : Bool) → Sorted (branches t around taken os)
-    branches-sorted (endif l) around taken = closing-sorted around (evaluate t Endif (textOf l)) (in-condition t Endif (textOf l))
+    branches-sorted : (os : Branches) (around taken : Bool) → Sorted (branches t around taken os δ)
+    branches-sorted (endif l) around taken = closing-sorted around (evaluate t Endif (textOf l) δ) (in-condition t δ Endif (textOf l))
     branches-sorted (elseif l body os) around taken =
-        branch-sorted (λ b. meaning t b body) (λ b. branches t around b os) (λ b. blocks-sorted body b) (λ b. branches-sorted os around b)
-        (around && not taken) (evaluate t Elseif (textOf l)) taken (in-condition t Elseif (textOf l))
+        branch-sorted (λ b. meaning t b body δ) (λ b. branches t around b os δ) (λ b. blocks-sorted body b) (λ b. branches-sorted os around b)
+        (around && not taken) (evaluate t Elseif (textOf l) δ) taken (in-condition t δ Elseif (textOf l))
     branches-sorted (else l body e) around taken =
-        branch-sorted (λ b. meaning t b body) (λ _. closing around (evaluate t Endif (textOf e))) (λ b. blocks-sorted body b)
-        (λ _. closing-sorted around (evaluate t Endif (textOf e)) (in-condition t Endif (textOf e)))
-        around (otherwise taken (evaluate t Else (textOf l))) taken (otherwise-sorted taken (evaluate t Else (textOf l)) (in-condition t Else (textOf l)))
+        branch-sorted (λ b. meaning t b body δ) (λ _. closing around (evaluate t Endif (textOf e) δ)) (λ b. blocks-sorted body b)
+        (λ _. closing-sorted around (evaluate t Endif (textOf e) δ) (in-condition t δ Endif (textOf e)))
+        around (otherwise taken (evaluate t Else (textOf l) δ)) taken (otherwise-sorted taken (evaluate t Else (textOf l) δ) (in-condition t δ Else (textOf l)))
 
-pub fault-numbers : (t : List ℕ) (bs : Blocks) (r i : ℕ) → meaning t true bs ≡ fault r i → 17 ≤ r → r ≤ 21 → ⊥
-fault-numbers t bs r i e = let h : Sorted (fault r i) = rw e at (blocks-sorted t bs true) in h
+pub fault-numbers : (t : List ℕ) (δ : Dialect) (bs : Blocks) (r i : ℕ) → meaning t true bs δ ≡ fault r i → 17 ≤ r → r ≤ 21 → ⊥
+fault-numbers t δ bs r i e = let h : Sorted (fault r i) = rw e at (blocks-sorted t δ bs true) in h

@@ -2,7 +2,7 @@
 use Prim.Native.Nat.{ℕ, suc, _≤_}
 use native.Mathlib.Omega.{arith}
 use mathlib.Core.Path.{_≡_, refl, sym, ap, _∙_}
-use mathlib.Core.Bool.{Bool, true, false, false≢true}
+use mathlib.Core.Bool.{Bool, true, false, not, _&&_, false≢true}
 use mathlib.Core.List.{List, [], _∷_}
 use lib.ListN.{length, drop}
 use lib.Dec.{leb}
@@ -13,29 +13,29 @@ use Rattle.line.specs.declared.Directive.{Directive}
 use Rattle.line.specs.declared.Directive.the-variants.{Plain, If, Ifdef, Ifndef, Elseif, Else, Endif, Unknown}
 use Rattle.line.specs.declared.Condition.{Condition}
 use Rattle.line.specs.declared.Condition.the-variants.{Holds, Fails, Refused}
-use Rattle.ruling.specs.States.{isActive}
-use Rattle.ruling.specs.Rules.{elseifTransition, elseTransition, endTransition}
-use Rattle.ruling.specs.declared.GroupState.{GroupState}
-use Rattle.ruling.specs.declared.GroupState.the-variants.{NoGroup, Skipped, Pending, Active, Done}
-use Rattle.nesting.specs.Groups.{Group, group, stateOf}
-use Rattle.nesting.specs.Decide.{Outcome, go, stop, openedBy, opened, opening, decided}
+use Rattle.groups.specs.Rules.{MAX-GROUPS, UNREAD, firstBranch, wasTaken, nextBranch, plan, settled}
+use Rattle.groups.specs.Groups.{Group, group, innermost, State, state, Outcome, go, stop, applied}
+use Rattle.groups.specs.declared.Flags.{Flags}
+use Rattle.groups.specs.declared.Transition.the-variants.{Push, Replace, Pop, Refuse}
+use Rattle.groups.specs.declared.Plan.the-variants.{Read, Unread}
+use Rattle.select.specs.Step.{planned, decided}
 use Rattle.blocks.specs.Blocks.{opens}
-use Rattle.blocks.proofs.StepByWord.{Inside}
+use Rattle.blocks.proofs.StepByWord.{depth-length, some-open, live, opens-plan, opens-settled}
 use Rattle.blocks.proofs.MayFollow.{Front, Others, After, None, Rest, before-plain, before-opening, before-elseif, before-else, before-endif}
 
 -- for each open group, whether its `!else` was seen
 abbrev pub flags : List Group → List Bool
 flags [] = []
-flags (group s b n ∷ gs) = b ∷ flags gs
+flags (g ∷ gs) = g .flags .last ∷ flags gs
 
 pub flags-length : (gs : List Group) → length (flags gs) ≡ length gs
 flags-length [] = refl
-flags-length (group s b n ∷ gs) = ap suc (flags-length gs)
+flags-length (g ∷ gs) = ap suc (flags-length gs)
 
 -- for each open group, the line of its `!if`
 abbrev pub starts : List Group → List ℕ
 starts [] = []
-starts (group s b n ∷ gs) = n ∷ starts gs
+starts (g ∷ gs) = g .line ∷ starts gs
 
 -- the open groups before a line and after it
 pub data Moves : Directive → List Bool → List Bool → Type 0 where
@@ -94,16 +94,10 @@ moved-back most l ls (turn {fs}) e h k r = moved-in most (Front most 0 None) l l
 moved-back most l ls (final {fs}) e h k r = moved-in most (Front most 0 None) l ls (final {fs = fs}) e tt h k r
 moved-back most l ls (leave {b} {fs}) e h k r = moved-in most (Front most 0 None) l ls (leave {b = b} {fs = fs}) e tt h k r
 
--- no open group has the state `NoGroup`
-abbrev pub Proper : List Group → Type 0
-Proper [] = Unit
-Proper (group s b n ∷ gs) = Inside s × Proper gs
-
 -- the open groups before line n and after it
 pub record Moved (d : Directive) (n : ℕ) (gs hs : List Group) : Type 0 where
   pub moves : Moves d (flags gs) (flags hs)
   pub at : starts hs ≡ started d n (starts gs)
-  pub proper : Proper gs → Proper hs
   pub few : length gs ≤ 16 → length hs ≤ 16
 
 -- the open groups and the word let a line pass
@@ -126,73 +120,89 @@ Can Unknown fs = Unit
 -- is not refused with 19
 abbrev pub Moving : Condition → Directive → ℕ → List Group → Outcome → Type 0
 Moving c d n gs (go m s) = Moved d n gs (s .groups)
-Moving c d n gs (stop r) = (c ≡ Refused 19 → ⊥) → Proper gs → Can d (flags gs) → r ≡ 19 → ⊥
+Moving c d n gs (stop r) = (c ≡ Refused 19 → ⊥) → Can d (flags gs) → r ≡ 19 → ⊥
 
-opening-moves : (d : Directive) → opens d ≡ true → (c : Condition) (n k : ℕ) (gs : List Group) → Moving c d n gs (opening c n k gs)
-unfolding opening
-opening-moves d o c n k gs = by (leb 16 (length gs)) refl (isActive (stateOf gs)) c
-  where
-    enters : (z : GroupState) → Inside z → leb 16 (length gs) ≡ false → Moved d n gs (group z false n ∷ gs)
-    enters z i e = record { moves = enter o; at = sym (started-opens d n (starts gs) o); proper = λ p. (i, p); few = λ h. leb-false 16 (length gs) e }
+-- a line that opens a group
+module _ (d : Directive) (o : opens d ≡ true) (n k : ℕ) (gs : List Group) where
+  enters : (f : Flags) → f .last ≡ false → leb MAX-GROUPS (length gs) ≡ false → Moved d n gs (group f n ∷ gs)
+  enters f e h = record { moves = rw e (enter o); at = sym (started-opens d n (starts gs) o); few = λ _. leb-false MAX-GROUPS (length gs) h }
 
-    by : (a : Bool) → leb 16 (length gs) ≡ a → (b : Bool) (c : Condition)
-        → Moving c d n gs (pick a (stop 20) (pick b (openedBy c n k gs) (opened 2 Skipped n k gs)))
-    by true e b c = λ w p a z. omega arith
-    by false e true (Holds j) = enters Active tt e
-    by false e true (Fails j) = enters Pending tt e
-    by false e true (Refused r) = λ w p a z. w (ap Refused z)
-    by false e false c = enters Skipped tt e
+  pub opening-moves : (c : Condition) → Moving c d n gs (decided d c n (state gs k))
+  unfolding settled
+  opening-moves c = rw (opens-plan d o gs, depth-length gs) (by (leb MAX-GROUPS (length gs)) refl (live gs) c)
+    where
+      read : (c : Condition) (b : Bool) (j : ℕ) → leb MAX-GROUPS (length gs) ≡ false
+          → Moving c d n gs (applied (settled d (innermost gs .flags) b) n j (state gs k))
+      read c b j e = rw (opens-settled d o (innermost gs .flags) b) (enters (firstBranch true b) refl e)
 
-elseif-moves : (c : Condition) (n k : ℕ) (gs : List Group) → Moving c Elseif n gs (decided Elseif c n k gs)
-unfolding decided elseifTransition
-elseif-moves c n k [] = λ w p a z. a
-elseif-moves c n k (group s true m ∷ gs) = λ w p a z. a
-elseif-moves c n k (group NoGroup false m ∷ gs) = λ w p a z. p .0
-elseif-moves c n k (group Skipped false m ∷ gs) = record { moves = turn; at = refl; proper = λ p. (tt, p .1); few = λ h. omega arith }
-elseif-moves (Holds j) n k (group Pending false m ∷ gs) = record { moves = turn; at = refl; proper = λ p. (tt, p .1); few = λ h. omega arith }
-elseif-moves (Fails j) n k (group Pending false m ∷ gs) = record { moves = turn; at = refl; proper = λ p. (tt, p .1); few = λ h. omega arith }
-elseif-moves (Refused r) n k (group Pending false m ∷ gs) = λ w p a z. w (ap Refused z)
-elseif-moves c n k (group Active false m ∷ gs) = record { moves = turn; at = refl; proper = λ p. (tt, p .1); few = λ h. omega arith }
-elseif-moves c n k (group Done false m ∷ gs) = record { moves = turn; at = refl; proper = λ p. (tt, p .1); few = λ h. omega arith }
+      by : (a : Bool) → leb MAX-GROUPS (length gs) ≡ a → (b : Bool) (c : Condition)
+          → Moving c d n gs (planned (pick a (Unread (Refuse 20)) (pick b Read (Unread (Push UNREAD (firstBranch false false))))) d c n (state gs k))
+      by true e b c = λ w a z. omega arith
+      by false e true (Holds j) = read (Holds j) true j e
+      by false e true (Fails j) = read (Fails j) false j e
+      by false e true (Refused r) = λ w a z. w (ap Refused z)
+      by false e false c = enters (firstBranch false false) refl e
 
-else-moves : (c : Condition) (n k : ℕ) (gs : List Group) → Moving c Else n gs (decided Else c n k gs)
-unfolding decided elseTransition
-else-moves c n k [] = λ w p a z. a
-else-moves c n k (group s true m ∷ gs) = λ w p a z. a
-else-moves c n k (group NoGroup false m ∷ gs) = λ w p a z. p .0
-else-moves c n k (group Skipped false m ∷ gs) = record { moves = final; at = refl; proper = λ p. (tt, p .1); few = λ h. omega arith }
-else-moves (Holds j) n k (group Pending false m ∷ gs) = record { moves = final; at = refl; proper = λ p. (tt, p .1); few = λ h. omega arith }
-else-moves (Fails j) n k (group Pending false m ∷ gs) = record { moves = final; at = refl; proper = λ p. (tt, p .1); few = λ h. omega arith }
-else-moves (Refused r) n k (group Pending false m ∷ gs) = λ w p a z. w (ap Refused z)
-else-moves (Holds j) n k (group Active false m ∷ gs) = record { moves = final; at = refl; proper = λ p. (tt, p .1); few = λ h. omega arith }
-else-moves (Fails j) n k (group Active false m ∷ gs) = record { moves = final; at = refl; proper = λ p. (tt, p .1); few = λ h. omega arith }
-else-moves (Refused r) n k (group Active false m ∷ gs) = λ w p a z. w (ap Refused z)
-else-moves (Holds j) n k (group Done false m ∷ gs) = record { moves = final; at = refl; proper = λ p. (tt, p .1); few = λ h. omega arith }
-else-moves (Fails j) n k (group Done false m ∷ gs) = record { moves = final; at = refl; proper = λ p. (tt, p .1); few = λ h. omega arith }
-else-moves (Refused r) n k (group Done false m ∷ gs) = λ w p a z. w (ap Refused z)
+-- a line inside the group with these flags, or outside all groups
+module _ (n k : ℕ) (gs : List Group) (f : Flags) (m : ℕ) where
+  abbrev around : State
+  around = state (group f m ∷ gs) k
 
-endif-moves : (c : Condition) (n k : ℕ) (gs : List Group) → Moving c Endif n gs (decided Endif c n k gs)
-unfolding decided endTransition
-endif-moves c n k [] = λ w p a z. a
-endif-moves c n k (group NoGroup b m ∷ gs) = λ w p a z. p .0
-endif-moves c n k (group Skipped b m ∷ gs) = record { moves = leave; at = refl; proper = λ p. p .1; few = λ h. omega arith }
-endif-moves (Holds j) n k (group Pending b m ∷ gs) = record { moves = leave; at = refl; proper = λ p. p .1; few = λ h. omega arith }
-endif-moves (Fails j) n k (group Pending b m ∷ gs) = record { moves = leave; at = refl; proper = λ p. p .1; few = λ h. omega arith }
-endif-moves (Refused r) n k (group Pending b m ∷ gs) = λ w p a z. w (ap Refused z)
-endif-moves (Holds j) n k (group Active b m ∷ gs) = record { moves = leave; at = refl; proper = λ p. p .1; few = λ h. omega arith }
-endif-moves (Fails j) n k (group Active b m ∷ gs) = record { moves = leave; at = refl; proper = λ p. p .1; few = λ h. omega arith }
-endif-moves (Refused r) n k (group Active b m ∷ gs) = λ w p a z. w (ap Refused z)
-endif-moves (Holds j) n k (group Done b m ∷ gs) = record { moves = leave; at = refl; proper = λ p. p .1; few = λ h. omega arith }
-endif-moves (Fails j) n k (group Done b m ∷ gs) = record { moves = leave; at = refl; proper = λ p. p .1; few = λ h. omega arith }
-endif-moves (Refused r) n k (group Done b m ∷ gs) = λ w p a z. w (ap Refused z)
+  turns : (taken : Bool) → f .last ≡ false → Moved Elseif n (group f m ∷ gs) (group (nextBranch f taken false) m ∷ gs)
+  turns taken e = record { moves = rw e turn; at = refl; few = λ h. h }
 
-pub decided-moves : (d : Directive) (c : Condition) (n k : ℕ) (gs : List Group) → Moving c d n gs (decided d c n k gs)
-unfolding decided
-decided-moves Plain c n k gs = record { moves = stay; at = refl; proper = λ p. p; few = λ h. omega arith }
-decided-moves If c n k gs = opening-moves If refl c n k gs
-decided-moves Ifdef c n k gs = opening-moves Ifdef refl c n k gs
-decided-moves Ifndef c n k gs = opening-moves Ifndef refl c n k gs
-decided-moves Elseif c n k gs = elseif-moves c n k gs
-decided-moves Else c n k gs = else-moves c n k gs
-decided-moves Endif c n k gs = endif-moves c n k gs
-decided-moves Unknown c n k gs = λ w p a z. omega arith
+  elseif-moves : (c : Condition) → Moving c Elseif n (group f m ∷ gs) (decided Elseif c n around)
+  unfolding plan settled
+  elseif-moves c = rw (some-open (group f m) gs) (by (f .last) refl (f .around && not (wasTaken f)) c)
+    where
+      by : (l : Bool) → f .last ≡ l → (r : Bool) (c : Condition)
+          → Moving c Elseif n (group f m ∷ gs)
+          (planned (pick l (Unread (Refuse 19)) (pick r Read (Unread (Replace UNREAD (nextBranch f false false))))) Elseif c n around)
+      by true e r c = λ w a z. let x : Can Elseif (true ∷ flags gs) = rw e at a in x
+      by false e true (Holds j) = turns true e
+      by false e true (Fails j) = turns false e
+      by false e true (Refused r) = λ w a z. w (ap Refused z)
+      by false e false c = turns false e
+
+  ends : (taken : Bool) → f .last ≡ false → Moved Else n (group f m ∷ gs) (group (nextBranch f taken true) m ∷ gs)
+  ends taken e = record { moves = rw e final; at = refl; few = λ h. h }
+
+  else-moves : (c : Condition) → Moving c Else n (group f m ∷ gs) (decided Else c n around)
+  unfolding plan settled
+  else-moves c = rw (some-open (group f m) gs) (by (f .last) refl (f .around) c)
+    where
+      by : (l : Bool) → f .last ≡ l → (r : Bool) (c : Condition)
+          → Moving c Else n (group f m ∷ gs)
+          (planned (pick l (Unread (Refuse 19)) (pick r Read (Unread (Replace UNREAD (nextBranch f false true))))) Else c n around)
+      by true e r c = λ w a z. let x : Can Else (true ∷ flags gs) = rw e at a in x
+      by false e true (Holds j) = ends (not (wasTaken f)) e
+      by false e true (Fails j) = ends (not (wasTaken f)) e
+      by false e true (Refused r) = λ w a z. w (ap Refused z)
+      by false e false c = ends false e
+
+  endif-moves : (c : Condition) → Moving c Endif n (group f m ∷ gs) (decided Endif c n around)
+  unfolding plan settled
+  endif-moves c = rw (some-open (group f m) gs) (by (f .around) c)
+    where
+      leaves : Moved Endif n (group f m ∷ gs) gs
+      leaves = record { moves = leave; at = refl; few = λ h. omega arith }
+
+      by : (r : Bool) (c : Condition) → Moving c Endif n (group f m ∷ gs) (planned (pick r Read (Unread (Pop UNREAD))) Endif c n around)
+      by true (Holds j) = leaves
+      by true (Fails j) = leaves
+      by true (Refused r) = λ w a z. w (ap Refused z)
+      by false c = leaves
+
+pub decided-moves : (d : Directive) (c : Condition) (n k : ℕ) (gs : List Group) → Moving c d n gs (decided d c n (state gs k))
+unfolding plan
+decided-moves Plain c n k gs = record { moves = stay; at = refl; few = λ h. h }
+decided-moves If c n k gs = opening-moves If refl n k gs c
+decided-moves Ifdef c n k gs = opening-moves Ifdef refl n k gs c
+decided-moves Ifndef c n k gs = opening-moves Ifndef refl n k gs c
+decided-moves Elseif c n k [] = λ w a z. a
+decided-moves Elseif c n k (g ∷ gs) = elseif-moves n k gs (g .flags) (g .line) c
+decided-moves Else c n k [] = λ w a z. a
+decided-moves Else c n k (g ∷ gs) = else-moves n k gs (g .flags) (g .line) c
+decided-moves Endif c n k [] = λ w a z. a
+decided-moves Endif c n k (g ∷ gs) = endif-moves n k gs (g .flags) (g .line) c
+decided-moves Unknown c n k gs = λ w a z. omega arith

@@ -6,6 +6,7 @@ use mathlib.Core.Logic.{_↔_}
 use mathlib.Core.Bool.{Bool, true, false, not, _&&_, _||_, false≢true}
 use mathlib.Core.List.{List, [], _∷_, _++_, append-assoc}
 use lib.ListN.{length, getD}
+use Rattle.units.specs.declared.Dialect.{Dialect}
 use Rattle.text.specs.Bytes.{pick}
 use Rattle.line.specs.Directives.{directiveOf, textOf}
 use Rattle.line.specs.Lines.{lines}
@@ -96,33 +97,33 @@ plain-shows : (around : Bool) → Shows (false ∷ []) (single (pick around 1 0)
 plain-shows true = unread 1 0 (omega arith)
 plain-shows false = unread 0 0 (omega arith)
 
-module _ (t : List ℕ) where
+module _ (t : List ℕ) (δ : Dialect) where
   mutual
     unfolding meaning readsOf
 
-    blocks-show : (bs : Blocks) (around : Bool) → Shows (readsOf t around bs) (meaning t around bs)
+    blocks-show : (bs : Blocks) (around : Bool) → Shows (readsOf t around bs δ) (meaning t around bs δ)
     blocks-show empty around = tt
     blocks-show (line l bs) around =
-        shows-then (false ∷ []) (readsOf t around bs) (single (pick around 1 0) 0) (meaning t around bs) (plain-shows around) (blocks-show bs around)
+        shows-then (false ∷ []) (readsOf t around bs δ) (single (pick around 1 0) 0) (meaning t around bs δ) (plain-shows around) (blocks-show bs around)
     blocks-show (group l body os bs) around =
-        let c : Condition = evaluate t (directiveOf l) (textOf l) in
+        let c : Condition = evaluate t (directiveOf l) (textOf l) δ in
         let taken : Bool = around && holds c in
-        let h = branch-shows (λ b. readsOf t b body) (λ b. readsIn t around b os) (λ b. meaning t b body) (λ b. branches t around b os)
+        let h = branch-shows (λ b. readsOf t b body δ) (λ b. readsIn t around b os δ) (λ b. meaning t b body δ) (λ b. branches t around b os δ)
         (λ b. blocks-show body b) (λ b. branches-show os around b) around c false in
-        let e : around ∷ (readsOf t taken body ++ (readsIn t around taken os ++ readsOf t around bs))
-        ≡ (around ∷ (readsOf t taken body ++ readsIn t around taken os)) ++ readsOf t around bs = simp append-assoc in
-        let m : Meaning = branch around c false (λ b. meaning t b body) (λ b. branches t around b os) in
-        let r : List Bool = around ∷ (readsOf t taken body ++ readsIn t around taken os) in
-        rw e (shows-then r (readsOf t around bs) m (meaning t around bs) h (blocks-show bs around))
+        let e : around ∷ (readsOf t taken body δ ++ (readsIn t around taken os δ ++ readsOf t around bs δ))
+        ≡ (around ∷ (readsOf t taken body δ ++ readsIn t around taken os δ)) ++ readsOf t around bs δ = simp append-assoc in
+        let m : Meaning = branch around c false (λ b. meaning t b body δ) (λ b. branches t around b os δ) in
+        let r : List Bool = around ∷ (readsOf t taken body δ ++ readsIn t around taken os δ) in
+        rw e (shows-then r (readsOf t around bs δ) m (meaning t around bs δ) h (blocks-show bs around))
 
-    branches-show : (os : Branches) (around earlier : Bool) → Shows (readsIn t around earlier os) (branches t around earlier os)
-    branches-show (endif l) around earlier = closing-shows around (evaluate t Endif (textOf l))
+    branches-show : (os : Branches) (around earlier : Bool) → Shows (readsIn t around earlier os δ) (branches t around earlier os δ)
+    branches-show (endif l) around earlier = closing-shows around (evaluate t Endif (textOf l) δ)
     branches-show (elseif l body os) around earlier =
-        branch-shows (λ b. readsOf t b body) (λ b. readsIn t around b os) (λ b. meaning t b body) (λ b. branches t around b os)
-        (λ b. blocks-show body b) (λ b. branches-show os around b) (around && not earlier) (evaluate t Elseif (textOf l)) earlier
+        branch-shows (λ b. readsOf t b body δ) (λ b. readsIn t around b os δ) (λ b. meaning t b body δ) (λ b. branches t around b os δ)
+        (λ b. blocks-show body b) (λ b. branches-show os around b) (around && not earlier) (evaluate t Elseif (textOf l) δ) earlier
     branches-show (else l body e) around earlier =
-        else-shows (λ b. readsOf t b body) (around ∷ []) (λ b. meaning t b body) (closing around (evaluate t Endif (textOf e)))
-        (λ b. blocks-show body b) (closing-shows around (evaluate t Endif (textOf e))) around (evaluate t Else (textOf l)) earlier
+        else-shows (λ b. readsOf t b body δ) (around ∷ []) (λ b. meaning t b body δ) (closing around (evaluate t Endif (textOf e) δ))
+        (λ b. blocks-show body b) (closing-shows around (evaluate t Endif (textOf e) δ)) around (evaluate t Else (textOf l) δ) earlier
 
 tells-at : (bs : List Bool) (ms : List ℕ) (i : ℕ) → Tells bs ms → i < length ms
     → ((getD bs i false ≡ true) ↔ Read (getD ms i 0)) × (getD ms i 0 ≤ 5)
@@ -131,13 +132,13 @@ tells-at [] (m ∷ ms) i h k = absurd h
 tells-at (b ∷ bs) (m ∷ ms) zero h k = (h .0, h .1)
 tells-at (b ∷ bs) (m ∷ ms) (suc i) h k = tells-at bs ms i (h .2) (omega arith)
 
-pub marks-tell-reading : (f t : List ℕ) (room : ℕ) (ms : List ℕ) (c : ℕ) → selection f t room ≡ accepted ms c
+pub marks-tell-reading : (f t : List ℕ) (δ : Dialect) (room : ℕ) (ms : List ℕ) (c : ℕ) → selection f t room δ ≡ accepted ms c
     → (bs : Blocks) → Derives (lines f) bs → (i : ℕ) → i < length (lines f)
-    → ((getD (readsOf t true bs) i false ≡ true) ↔ Read (getD ms i 0)) × (getD ms i 0 ≤ 5)
-marks-tell-reading f t room ms c e bs d i k =
-    let w = sound f t room ms c e in
+    → ((getD (readsOf t true bs δ) i false ≡ true) ↔ Read (getD ms i 0)) × (getD ms i 0 ≤ 5)
+marks-tell-reading f t δ room ms c e bs d i k =
+    let w = sound f t δ room ms c e in
     let q : bs ≡ w .0 = unambiguous (lines f) bs (w .0) d (w .1) in
-    let m : meaning t true bs ≡ means ms c = rw q (w .4) in
-    let s : Shows (readsOf t true bs) (means ms c) = rw m at (blocks-show t bs true) in
-    let n = marks-each-line f t room ms c e in
-    tells-at (readsOf t true bs) ms i s (omega arith)
+    let m : meaning t true bs δ ≡ means ms c = rw q (w .4) in
+    let s : Shows (readsOf t true bs δ) (means ms c) = rw m at (blocks-show t δ bs true) in
+    let n = marks-each-line f t δ room ms c e in
+    tells-at (readsOf t true bs δ) ms i s (omega arith)

@@ -5,6 +5,7 @@ use mathlib.Core.Path.{_≡_, refl, sym, ap, _∙_}
 use mathlib.Core.Bool.{Bool, true, false}
 use mathlib.Core.List.{List, [], _∷_, _++_, append-nil}
 use lib.ListN.{length}
+use Rattle.units.specs.declared.Dialect.{Dialect}
 use Rattle.text.specs.Bytes.{bytes, classOf}
 use Rattle.text.specs.Runs.{span}
 use Rattle.text.specs.Order.{compared}
@@ -12,9 +13,7 @@ use Rattle.line.specs.Directives.{named, wordStart, textStart, directiveOf, tex
 use Rattle.line.specs.declared.Directive.the-variants.{Endif}
 use Rattle.condition.specs.Conditions.{idle, evaluate}
 use Rattle.line.specs.declared.Condition.the-variants.{Holds}
-use Rattle.ruling.specs.States.{isEnclosedLive}
-use Rattle.nesting.specs.Groups.{Group, group as entry}
-use Rattle.nesting.specs.Decide.{State, state}
+use Rattle.groups.specs.Groups.{Group, State, state}
 use Rattle.select.specs.Select.{Result, accepted, prepend, run, start}
 use Rattle.blocks.specs.Blocks.{Derives, depth}
 use Rattle.blocks.specs.Meaning.{closing, meaning, WithinLimit, resultOf}
@@ -23,10 +22,10 @@ use Rattle.blocks.proofs.Passing.{Passes}
 use Rattle.blocks.proofs.Continuation.{onto, onto-accepted, follow}
 use Rattle.blocks.proofs.RunMeaning.{end-goes}
 use Rattle.blocks.proofs.MayFollow.{Rest}
-use Rattle.blocks.proofs.GroupMoves.{flags, flags-length, Proper}
+use Rattle.blocks.proofs.GroupMoves.{flags, flags-length}
 use Rattle.blocks.proofs.AcceptedBlocks.{passed}
 use Rattle.blocks.proofs.Decided.{run-complete, accepted-means}
-use Rattle.blocks.proofs.PassedLines.{an-endif, closers, completed, passes-back, passes-proper}
+use Rattle.blocks.proofs.PassedLines.{an-endif, closers, completed, passes-back}
 use Rattle.blocks.proofs.Stops.{accepted-passes, passes-on}
 
 pub limit-append : (a b : List (List ℕ)) → WithinLimit a → WithinLimit b → WithinLimit (a ++ b)
@@ -40,18 +39,18 @@ pub closers-short : (fs : List Bool) → WithinLimit (closers fs)
 closers-short [] = tt
 closers-short (b ∷ fs) = (endif-short, closers-short fs)
 
-pub passes-short : (t : List ℕ) (ls : List (List ℕ)) (n : ℕ) (s s′ : State) → Passes t n s ls s′ → WithinLimit ls
-passes-short t [] n s s′ e = tt
-passes-short t (l ∷ ls) n s s′ p = (passed t n s l (p .0) (p .1) (p .2) .0, passes-short t ls (n + 1) (p .1) s′ (p .3))
+pub passes-short : (t : List ℕ) (δ : Dialect) (ls : List (List ℕ)) (n : ℕ) (s s′ : State) → Passes t δ n s ls s′ → WithinLimit ls
+passes-short t δ [] n s s′ e = tt
+passes-short t δ (l ∷ ls) n s s′ p = (passed t δ n s l (p .0) (p .1) (p .2) .0, passes-short t δ ls (n + 1) (p .1) s′ (p .3))
 
 -- lines that may follow while no group is open derive blocks
 pub rest-derives : (ls : List (List ℕ)) (r : Rest 16 [] ls) → Derives ls (r .blocks) × (depth (r .blocks) ≤ 16)
 rest-derives ls r = (record { lines = r .lines ∙ rw (r .next, append-nil); words = r .fits }, omega (arith, r .deep))
 
 -- every open group can be ended without a fault
-endif-condition : (t : List ℕ) → evaluate t Endif (textOf (bytes "!endif")) ≡ Holds 0
+endif-condition : (t : List ℕ) (δ : Dialect) → evaluate t Endif (textOf (bytes "!endif")) δ ≡ Holds 0
 unfolding evaluate idle named wordStart textStart directiveOf span compared classOf
-endif-condition t = refl
+endif-condition t δ = refl
 
 abbrev Accepting : Result → Type 0
 Accepting r = (ms : List ℕ) × (c : ℕ) × (r ≡ accepted ms c)
@@ -63,29 +62,29 @@ closing-accepting : (b : Bool) (n k : ℕ) (f : ℕ → ℕ → Result) → ((n 
 closing-accepting false n k f h = prepend-accepting 2 (f (n + 1) (k + 0)) (h (n + 1) (k + 0))
 closing-accepting true n k f h = prepend-accepting 5 (f (n + 1) (k + 0)) (h (n + 1) (k + 0))
 
-closers-accepting : (t : List ℕ) (gs : List Group) → Proper gs → (n k : ℕ) → Accepting (run t n (state gs k) (closers (flags gs)))
+closers-accepting : (t : List ℕ) (δ : Dialect) (gs : List Group) (n k : ℕ) → Accepting (run t n (state gs k) (closers (flags gs)) δ)
 unfolding run
-closers-accepting t [] p n k = ([], k, refl)
-closers-accepting t (entry z b m ∷ gs) p n k =
-    let e = end-goes t z b m gs (bytes "!endif") (closers (flags gs)) (p .0) an-endif endif-short n k in
-    let f : ℕ → ℕ → Result = λ n k. run t n (state gs k) (closers (flags gs)) in
-    let q : run t n (state (entry z b m ∷ gs) k) (bytes "!endif" ∷ closers (flags gs)) ≡ follow n k (closing (isEnclosedLive z) (Holds 0)) f =
-    rw (endif-condition t) at e in
-    let w = closing-accepting (isEnclosedLive z) n k f (λ n′ k′. closers-accepting t gs (p .1) n′ k′) in
+closers-accepting t δ [] n k = ([], k, refl)
+closers-accepting t δ (g ∷ gs) n k =
+    let e = end-goes t δ (g .flags) (g .line) gs (bytes "!endif") (closers (flags gs)) an-endif endif-short n k in
+    let f : ℕ → ℕ → Result = λ n k. run t n (state gs k) (closers (flags gs)) δ in
+    let q : run t n (state (g ∷ gs) k) (bytes "!endif" ∷ closers (flags gs)) δ ≡ follow n k (closing (g .flags .around) (Holds 0)) f =
+    rw (endif-condition t δ) at e in
+    let w = closing-accepting (g .flags .around) n k f (λ n′ k′. closers-accepting t δ gs n′ k′) in
     (w .0, w .1, q ∙ w .2)
 
-pub passes-passable : (t : List ℕ) (ls : List (List ℕ)) (s : State) → Passes t 1 start ls s → Passable t ls
-passes-passable t ls s p =
+pub passes-passable : (t : List ℕ) (δ : Dialect) (ls : List (List ℕ)) (s : State) → Passes t δ 1 start ls s → Passable t ls δ
+passes-passable t δ ls s p =
     let more = closers (flags (s .groups)) in
-    let b = passes-back t ls 1 start s more p (omega arith) in
+    let b = passes-back t δ ls 1 start s more p (omega arith) in
     let few = b .0 in
     let r : Rest 16 [] (ls ++ more) = b .1 (completed 16 (flags (s .groups)) (omega (arith, flags-length (s .groups)))) in
     let d = rest-derives (ls ++ more) r in
-    let short = limit-append ls more (passes-short t ls 1 start s p) (closers-short (flags (s .groups))) in
-    let o = passes-on t ls 1 start s more p in
-    let a = closers-accepting t (s .groups) (passes-proper t ls 1 start s p tt) (1 + length ls) (s .count) in
-    let e : resultOf (meaning t true (r .blocks)) ≡ accepted (o .0 ++ a .0) (a .1) =
-    sym (run-complete t (ls ++ more) (r .blocks) (d .0) (d .1) short) ∙ o .1 ∙ ap (onto (o .0)) (a .2) ∙ onto-accepted (o .0) (a .0) (a .1) in
+    let short = limit-append ls more (passes-short t δ ls 1 start s p) (closers-short (flags (s .groups))) in
+    let o = passes-on t δ ls 1 start s more p in
+    let a = closers-accepting t δ (s .groups) (1 + length ls) (s .count) in
+    let e : resultOf (meaning t true (r .blocks) δ) ≡ accepted (o .0 ++ a .0) (a .1) =
+    sym (run-complete t δ (ls ++ more) (r .blocks) (d .0) (d .1) short) ∙ o .1 ∙ ap (onto (o .0)) (a .2) ∙ onto-accepted (o .0) (a .0) (a .1) in
     record {
       more = more;
       blocks = r .blocks;
@@ -94,10 +93,10 @@ passes-passable t ls s p =
       short = short;
       marks = o .0 ++ a .0;
       count = a .1;
-      meant = accepted-means (meaning t true (r .blocks)) (o .0 ++ a .0) (a .1) e;
+      meant = accepted-means (meaning t true (r .blocks) δ) (o .0 ++ a .0) (a .1) e;
     }
 
-pub passable-passes : (t : List ℕ) (ls : List (List ℕ)) → Passable t ls → (s : State) × Passes t 1 start ls s
-passable-passes t ls p =
-    let e = run-complete t (ls ++ p .more) (p .blocks) (p .derives) (p .shallow) (p .short) ∙ ap resultOf (p .meant) in
-    accepted-passes t ls (p .more) 1 start (p .marks) (p .count) e
+pub passable-passes : (t : List ℕ) (δ : Dialect) (ls : List (List ℕ)) → Passable t ls δ → (s : State) × Passes t δ 1 start ls s
+passable-passes t δ ls p =
+    let e = run-complete t δ (ls ++ p .more) (p .blocks) (p .derives) (p .shallow) (p .short) ∙ ap resultOf (p .meant) in
+    accepted-passes t δ ls (p .more) 1 start (p .marks) (p .count) e

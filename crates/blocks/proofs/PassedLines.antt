@@ -6,16 +6,17 @@ use mathlib.Core.Path.{_≡_, refl, sym, ap}
 use mathlib.Core.Bool.{Bool, false≢true}
 use mathlib.Core.List.{List, [], _∷_, _++_}
 use lib.ListN.{length}
+use Rattle.units.specs.declared.Dialect.{Dialect}
 use Rattle.text.specs.Bytes.{bytes, classOf}
 use Rattle.text.specs.Runs.{span}
 use Rattle.text.specs.Order.{compared}
 use Rattle.line.specs.Directives.{named, wordStart, directiveOf}
 use Rattle.line.specs.declared.Directive.{Directive}
 use Rattle.line.specs.declared.Directive.the-variants.{Endif}
-use Rattle.nesting.specs.Decide.{State}
+use Rattle.groups.specs.Groups.{State}
 use Rattle.blocks.proofs.Passing.{Passes}
 use Rattle.blocks.proofs.MayFollow.{Rest, nothing-left, before-endif}
-use Rattle.blocks.proofs.GroupMoves.{flags, flags-length, Moved, Moves, stay, enter, turn, final, leave, moved-back, Proper}
+use Rattle.blocks.proofs.GroupMoves.{flags, flags-length, Moved, Moves, stay, enter, turn, final, leave, moved-back}
 use Rattle.blocks.proofs.AcceptedBlocks.{passed}
 use Rattle.blocks.proofs.NextLine.{ahead}
 
@@ -79,23 +80,18 @@ completed most [] h = nothing-left most
 completed most (b ∷ fs) h =
     before-endif most (length fs) (bytes "!endif") (closers fs) (Rest most fs) b an-endif h (completed most fs (omega arith))
 
-module _ (t : List ℕ) where
-  pub passes-walk : (ls : List (List ℕ)) (n : ℕ) (s s′ : State) → Passes t n s ls s′ → Walk (flags (s .groups)) ls (flags (s′ .groups))
+module _ (t : List ℕ) (δ : Dialect) where
+  pub passes-walk : (ls : List (List ℕ)) (n : ℕ) (s s′ : State) → Passes t δ n s ls s′ → Walk (flags (s .groups)) ls (flags (s′ .groups))
   passes-walk [] n s s′ e = ap (λ (x : State). flags (x .groups)) e
   passes-walk (l ∷ ls) n s s′ p =
-      (flags (p .1 .groups), passed t n s l (p .0) (p .1) (p .2) .1 .moves, passes-walk ls (n + 1) (p .1) s′ (p .3))
-
-  -- then no open group has the state `NoGroup`
-  pub passes-proper : (ls : List (List ℕ)) (n : ℕ) (s s′ : State) → Passes t n s ls s′ → Proper (s .groups) → Proper (s′ .groups)
-  passes-proper [] n s s′ e h = rw (sym e) h
-  passes-proper (l ∷ ls) n s s′ p h = passes-proper ls (n + 1) (p .1) s′ (p .3) (passed t n s l (p .0) (p .1) (p .2) .1 .proper h)
+      (flags (p .1 .groups), passed t δ n s l (p .0) (p .1) (p .2) .1 .moves, passes-walk ls (n + 1) (p .1) s′ (p .3))
 
 -- the first statement with the limit of 16 groups
-pub passes-back : (t : List ℕ) (ls : List (List ℕ)) (n : ℕ) (s s′ : State) (more : List (List ℕ)) → Passes t n s ls s′ → length (s .groups) ≤ 16
+pub passes-back : (t : List ℕ) (δ : Dialect) (ls : List (List ℕ)) (n : ℕ) (s s′ : State) (more : List (List ℕ)) → Passes t δ n s ls s′ → length (s .groups) ≤ 16
     → (length (s′ .groups) ≤ 16) × (Rest 16 (flags (s′ .groups)) more → Rest 16 (flags (s .groups)) (ls ++ more))
-passes-back t [] n s s′ more e h = (rw (sym e) h, λ r. rw e r)
-passes-back t (l ∷ ls) n s s′ more p h =
-    let v : Moved (directiveOf l) n (s .groups) (p .1 .groups) = passed t n s l (p .0) (p .1) (p .2) .1 in
+passes-back t δ [] n s s′ more e h = (rw (sym e) h, λ r. rw e r)
+passes-back t δ (l ∷ ls) n s s′ more p h =
+    let v : Moved (directiveOf l) n (s .groups) (p .1 .groups) = passed t δ n s l (p .0) (p .1) (p .2) .1 in
     let k = v .few h in
-    let b = passes-back t ls (n + 1) (p .1) s′ more (p .3) k in
+    let b = passes-back t δ ls (n + 1) (p .1) s′ more (p .3) k in
     (b .0, λ r. moved-back 16 l (ls ++ more) (v .moves) refl (omega (arith, flags-length (s .groups))) (omega (arith, flags-length (p .1 .groups))) (b .1 r))

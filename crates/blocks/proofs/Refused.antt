@@ -8,16 +8,17 @@ use mathlib.Core.List.{List, [], _∷_, _++_}
 use lib.ListN.{length}
 use lib.Dec.{leb, ltb}
 use borrow.Author.Tests.{leb-true, leb-false, ltb-true, ltb-false}
+use Rattle.units.specs.declared.Dialect.{Dialect}
 use Rattle.line.specs.Directives.{directiveOf}
 use Rattle.line.specs.declared.Directive.{Directive}
 use Rattle.line.specs.declared.Directive.the-variants.{Plain, If, Ifdef, Ifndef, Elseif, Else, Endif, Unknown}
-use Rattle.condition.specs.Conditions.{countOf}
 use Rattle.line.specs.declared.Condition.{Condition}
-use Rattle.nesting.specs.Decide.{State, stop, decided}
-use Rattle.select.specs.Step.{readCondition, step}
+use Rattle.groups.specs.Rules.{plan}
+use Rattle.groups.specs.Groups.{State, stop}
+use Rattle.select.specs.Step.{decided, step}
 use Rattle.select.specs.Select.{Result, accepted, refused, run, start}
 use Rattle.select.proofs.LimitsCorrect.{never}
-use Rattle.select.proofs.Steps.{long-step, decided-step}
+use Rattle.select.proofs.Steps.{said, long-step, decided-step}
 use Rattle.blocks.specs.Blocks.{Blocks, opens, Derives, depth}
 use Rattle.blocks.specs.Meaning.{fault, meaning, resultOf, WithinLimit}
 use Rattle.blocks.specs.Beginnings.{Whole}
@@ -49,9 +50,9 @@ known-or-not Else = inr (λ e. let z : _≡_ {A = ℕ} 0 1 = cc in omega arith)
 known-or-not Endif = inr (λ e. let z : _≡_ {A = ℕ} 0 1 = cc in omega arith)
 known-or-not Unknown = inl refl
 
-decided-unknown : (d : Directive) → d ≡ Unknown → (c : Condition) (n k : ℕ) (s : State) → decided d c n k (s .groups) ≡ stop 18
-unfolding decided
-decided-unknown d e c n k s = rw e
+decided-unknown : (d : Directive) → d ≡ Unknown → (c : Condition) (n : ℕ) (s : State) → decided d c n s ≡ stop 18
+unfolding plan
+decided-unknown d e c n s = rw e
 
 -- at most 16 groups are open after a line that may open one more
 moves-few : {d : Directive} {fs gs : List Bool} → Moves d fs gs → length fs ≤ 16 → (opens d ≡ true → length fs < 16) → length gs ≤ 16
@@ -66,50 +67,47 @@ onto-back : (ms : List ℕ) (z : Result) (r n : ℕ) → onto ms z ≡ refused r
 onto-back ms (accepted ns c) r n e = never _ r n (ms ++ ns) c (sym e ∙ onto-accepted ms ns c)
 onto-back ms (refused a b) r n e = sym (onto-refused ms a b) ∙ e
 
-module _ (t : List ℕ) (ls : List (List ℕ)) (s : State) (p : Passes t 1 start ls s) (l : List ℕ) where
+module _ (t : List ℕ) (δ : Dialect) (ls : List (List ℕ)) (s : State) (p : Passes t δ 1 start ls s) (l : List ℕ) where
   abbrev m : ℕ
   m = 1 + length ls
 
   abbrev c : Condition
-  c = readCondition t (s .groups) l
+  c = said t δ m s l
 
   few : length (s .groups) ≤ 16
-  few = passes-back t ls 1 start s [] p (omega arith) .0
+  few = passes-back t δ ls 1 start s [] p (omega arith) .0
 
   -- a line that could pass by its word, and is refused: the fault is in its text
-  text-faulty : (r : ℕ) (gs : List Bool) → length l ≤ 1024 → Moves (directiveOf l) (flags (s .groups)) gs → length gs ≤ 16 → step t m s l ≡ stop r
-      → Refuses t ls l r
+  text-faulty : (r : ℕ) (gs : List Bool) → length l ≤ 1024 → Moves (directiveOf l) (flags (s .groups)) gs → length gs ≤ 16 → step t m s l δ ≡ stop r
+      → Refuses t ls l δ r
   text-faulty r gs short v k e =
       let more = closers gs in
       let h = few in
       let front = moved-back 16 l more v refl (omega (arith, flags-length (s .groups))) k (completed 16 gs k) in
-      let q = passes-back t ls 1 start s (l ∷ more) p (omega arith) .1 front in
+      let q = passes-back t δ ls 1 start s (l ∷ more) p (omega arith) .1 front in
       let d = rest-derives (ls ++ (l ∷ more)) q in
       let w : WithinLimit (l ∷ more) = (short, closers-short gs) in
-      let limit = limit-append ls (l ∷ more) (passes-short t ls 1 start s p) w in
-      let o = passes-on t ls 1 start s (l ∷ more) p in
+      let limit = limit-append ls (l ∷ more) (passes-short t δ ls 1 start s p) w in
+      let o = passes-on t δ ls 1 start s (l ∷ more) p in
       let z : refused r m ≡ refused r (length ls + 1) = ap (refused r) (omega arith) in
-      let f : resultOf (meaning t true (q .blocks)) ≡ refused r (length ls + 1) =
-      sym (run-complete t (ls ++ (l ∷ more)) (q .blocks) (d .0) (d .1) limit) ∙ o .1 ∙ ap (onto (o .0)) (run-stop t m s l more r e)
+      let f : resultOf (meaning t true (q .blocks) δ) ≡ refused r (length ls + 1) =
+      sym (run-complete t δ (ls ++ (l ∷ more)) (q .blocks) (d .0) (d .1) limit) ∙ o .1 ∙ ap (onto (o .0)) (run-stop t δ m s l more r e)
       ∙ onto-refused (o .0) r m ∙ z in
-      faulty more (q .blocks) (d .0) (d .1) limit (refused-means (meaning t true (q .blocks)) r (length ls) f)
+      faulty more (q .blocks) (d .0) (d .1) limit (refused-means (meaning t true (q .blocks) δ) r (length ls) f)
 
   -- the reason of a step that stops, by the length of its line, its word, and the open groups
-  short-reason : (r : ℕ) → length l ≤ 1024 → step t m s l ≡ stop r → Refuses t ls l r
+  short-reason : (r : ℕ) → length l ≤ 1024 → step t m s l δ ≡ stop r → Refuses t ls l δ r
   short-reason r short e = by-word (known-or-not (directiveOf l))
     where
-      n : ℕ
-      n = s .count + countOf c
-
-      done : decided (directiveOf l) c m n (s .groups) ≡ stop r
-      done = sym (decided-step t m s l short) ∙ e
+      done : decided (directiveOf l) c m s ≡ stop r
+      done = sym (decided-step t δ m s l short) ∙ e
 
       moving : (gs : List Bool) → Moves (directiveOf l) (flags (s .groups)) gs → (b : Bool) → opens (directiveOf l) ≡ b
           → (a : Bool) → leb 16 (length (s .groups)) ≡ a
-          → Refuses t ls l r
+          → Refuses t ls l δ r
       moving gs v true o true h =
-          let q = same-stop 20 r (sym (full (directiveOf l) o c m n (s .groups) (leb-true 16 (length (s .groups)) h)) ∙ done) in
-          subst (Refuses t ls l) q (deep short o (deeper t ls s p m l short o (e ∙ ap stop (sym q))))
+          let q = same-stop 20 r (sym (full (directiveOf l) o m (s .count) (s .groups) c (leb-true 16 (length (s .groups)) h)) ∙ done) in
+          subst (Refuses t ls l δ) q (deep short o (deeper t δ ls s p m l short o (e ∙ ap stop (sym q))))
       moving gs v true o false h =
           let k = leb-false 16 (length (s .groups)) h in
           text-faulty r gs short v (moves-few v (omega (arith, flags-length (s .groups))) (λ _. omega (arith, flags-length (s .groups)))) e
@@ -117,99 +115,99 @@ module _ (t : List ℕ) (ls : List (List ℕ)) (s : State) (p : Passes t 1 start
           let k = few in
           text-faulty r gs short v (moves-few v (omega (arith, flags-length (s .groups))) (λ i. absurd (false≢true (sym o ∙ i)))) e
 
-      by-word : ((directiveOf l ≡ Unknown) ⊎ (directiveOf l ≡ Unknown → ⊥)) → Refuses t ls l r
-      by-word (inl u) = subst (Refuses t ls l) (same-stop 18 r (sym (decided-unknown (directiveOf l) u c m n s) ∙ done)) (unknown short u)
+      by-word : ((directiveOf l ≡ Unknown) ⊎ (directiveOf l ≡ Unknown → ⊥)) → Refuses t ls l δ r
+      by-word (inl u) = subst (Refuses t ls l δ) (same-stop 18 r (sym (decided-unknown (directiveOf l) u c m s) ∙ done)) (unknown short u)
       by-word (inr known) =
-          move-or-stray c m n (Refuses t ls l r) (directiveOf l) known (s .groups)
+          move-or-stray c m (s .count) (Refuses t ls l δ r) (directiveOf l) known (s .groups)
           (λ gs v. moving gs v (opens (directiveOf l)) refl (leb 16 (length (s .groups))) refl)
           (λ q.
           let z = same-stop 19 r (sym q ∙ done) in
-          subst (Refuses t ls l) z (stray short known (not-both t ls s p m l short (e ∙ ap stop (sym z)))))
+          subst (Refuses t ls l δ) z (stray short known (not-both t δ ls s p m l short (e ∙ ap stop (sym z)))))
 
-  stop-reason : (r : ℕ) → step t m s l ≡ stop r → Refuses t ls l r
+  stop-reason : (r : ℕ) → step t m s l δ ≡ stop r → Refuses t ls l δ r
   stop-reason r e = by (ltb 1024 (length l)) refl
     where
-      by : (b : Bool) → ltb 1024 (length l) ≡ b → Refuses t ls l r
+      by : (b : Bool) → ltb 1024 (length l) ≡ b → Refuses t ls l δ r
       by true h =
           let k = ltb-true 1024 (length l) h in
-          subst (Refuses t ls l) (same-stop 17 r (sym (long-step t m s l k) ∙ e)) (long k)
+          subst (Refuses t ls l δ) (same-stop 17 r (sym (long-step t δ m s l k) ∙ e)) (long k)
       by false h = short-reason r (ltb-false 1024 (length l) h) e
 
   -- a fault in the meaning of blocks that the lines begin stops the run at this line
   fault-stops : (r : ℕ) (more : List (List ℕ)) (bs : Blocks) → Derives (ls ++ (l ∷ more)) bs → depth bs ≤ 16 → WithinLimit (ls ++ (l ∷ more))
-      → meaning t true bs ≡ fault r (length ls) → step t m s l ≡ stop r
-  fault-stops r more bs d k limit e = by (refused-where t (l ∷ more) m s r (length ls + 1) (onto-back (o .0) _ r (length ls + 1) (sym (o .1) ∙ whole)))
+      → meaning t true bs δ ≡ fault r (length ls) → step t m s l δ ≡ stop r
+  fault-stops r more bs d k limit e = by (refused-where t δ (l ∷ more) m s r (length ls + 1) (onto-back (o .0) _ r (length ls + 1) (sym (o .1) ∙ whole)))
     where
-      o : (ms : List ℕ) × (run t 1 start (ls ++ (l ∷ more)) ≡ onto ms (run t m s (l ∷ more)))
-      o = passes-on t ls 1 start s (l ∷ more) p
+      o : (ms : List ℕ) × (run t 1 start (ls ++ (l ∷ more)) δ ≡ onto ms (run t m s (l ∷ more) δ))
+      o = passes-on t δ ls 1 start s (l ∷ more) p
 
-      whole : run t 1 start (ls ++ (l ∷ more)) ≡ refused r (length ls + 1)
-      whole = run-complete t (ls ++ (l ∷ more)) bs d k limit ∙ ap resultOf e
+      whole : run t 1 start (ls ++ (l ∷ more)) δ ≡ refused r (length ls + 1)
+      whole = run-complete t δ (ls ++ (l ∷ more)) bs d k limit ∙ ap resultOf e
 
       first : (before : List (List ℕ)) (at : List ℕ) (rest : List (List ℕ)) (q : State) → l ∷ more ≡ before ++ (at ∷ rest)
-          → length ls + 1 ≡ m + length before → Passes t m s before q → step t (length ls + 1) q at ≡ stop r → step t m s l ≡ stop r
+          → length ls + 1 ≡ m + length before → Passes t δ m s before q → step t (length ls + 1) q at δ ≡ stop r → step t m s l δ ≡ stop r
       first [] at rest q i j z y =
           let u : l ≡ at = cc in
           let v : m ≡ length ls + 1 = omega arith in
           rw (u, z, v) y
       first (x ∷ xs) at rest q i j z y = absurd (omega arith)
 
-      by : Stopped t m s (l ∷ more) r (length ls + 1) ⊎ Ended t m s (l ∷ more) r (length ls + 1) → step t m s l ≡ stop r
+      by : Stopped t δ m s (l ∷ more) r (length ls + 1) ⊎ Ended t δ m s (l ∷ more) r (length ls + 1) → step t m s l δ ≡ stop r
       by (inl w) = first (w .before) (w .at) (w .rest) (w .state) (w .lines) (w .number) (w .passes) (w .stops)
       by (inr w) =
-          let v = passes-append t ls (l ∷ more) 1 start s (w .state) p (w .passes) in
-          let a = unfinished t (ls ++ (l ∷ more)) (w .state) v .0 (bs, d) in
+          let v = passes-append t δ ls (l ∷ more) 1 start s (w .state) p (w .passes) in
+          let a = unfinished t δ (ls ++ (l ∷ more)) (w .state) v .0 (bs, d) in
           never _ r (length ls + 1) (a .0) (w .state .count) (sym whole ∙ a .1)
 
-  reason-stops : {r : ℕ} → Refuses t ls l r → step t m s l ≡ stop r
-  reason-stops (long h) = long-step t m s l h
-  reason-stops (unknown h u) = decided-step t m s l h ∙ decided-unknown (directiveOf l) u c m (s .count + countOf c) s
-  reason-stops (stray h k b) = refuses t ls s p m l h k b
-  reason-stops (deep h o d) = refused-deep t ls s p m l h o d
+  reason-stops : {r : ℕ} → Refuses t ls l δ r → step t m s l δ ≡ stop r
+  reason-stops (long h) = long-step t δ m s l h
+  reason-stops (unknown h u) = decided-step t δ m s l h ∙ decided-unknown (directiveOf l) u c m s
+  reason-stops (stray h k b) = refuses t δ ls s p m l h k b
+  reason-stops (deep h o d) = refused-deep t δ ls s p m l h o d
   reason-stops (faulty {r} more bs d k limit e) = fault-stops r more bs d k limit e
 
-module _ (t : List ℕ) (ls : List (List ℕ)) (r n : ℕ) where
-  has-reason : run t 1 start ls ≡ refused r n → RefusedAt t ls r n ⊎ ((r ≡ 21) × RefusedAtEnd t ls n)
-  has-reason e = by (refused-where t ls 1 start r n e)
+module _ (t : List ℕ) (δ : Dialect) (ls : List (List ℕ)) (r n : ℕ) where
+  has-reason : run t 1 start ls δ ≡ refused r n → RefusedAt t ls r n δ ⊎ ((r ≡ 21) × RefusedAtEnd t ls n δ)
+  has-reason e = by (refused-where t δ ls 1 start r n e)
     where
-      by : Stopped t 1 start ls r n ⊎ Ended t 1 start ls r n → RefusedAt t ls r n ⊎ ((r ≡ 21) × RefusedAtEnd t ls n)
+      by : Stopped t δ 1 start ls r n ⊎ Ended t δ 1 start ls r n → RefusedAt t ls r n δ ⊎ ((r ≡ 21) × RefusedAtEnd t ls n δ)
       by (inl w) =
           let v : n ≡ 1 + length (w .before) = w .number in
-          let k : step t (1 + length (w .before)) (w .state) (w .at) ≡ stop r = rw v at (w .stops) in
+          let k : step t (1 + length (w .before)) (w .state) (w .at) δ ≡ stop r = rw v at (w .stops) in
           inl (record {
             before = w .before;
             refusing = w .at;
             rest = w .rest;
             lines = w .lines;
             number = omega arith;
-            passable = passes-passable t (w .before) (w .state) (w .passes);
-            reason = stop-reason t (w .before) (w .state) (w .passes) (w .at) r k;
+            passable = passes-passable t δ (w .before) (w .state) (w .passes);
+            reason = stop-reason t δ (w .before) (w .state) (w .passes) (w .at) r k;
           })
       by (inr w) =
           let z = at-end (w .state .groups) (w .state .count) r n (w .unclosed) in
-          let u = unfinished t ls (w .state) (w .passes) in
+          let u = unfinished t δ ls (w .state) (w .passes) in
           let not-whole : Whole ls → ⊥ = λ d. let a = u .0 d in never _ r n (a .0) (w .state .count) (sym e ∙ a .1) in
           let i = u .1 not-whole in
           let same : i .0 ≡ n = cc (sym (i .2) ∙ e) in
-          inr (z, record { passable = passes-passable t ls (w .state) (w .passes); unfinished = not-whole; innermost = rw (sym same) (i .1) })
+          inr (z, record { passable = passes-passable t δ ls (w .state) (w .passes); unfinished = not-whole; innermost = rw (sym same) (i .1) })
 
-  refuses-so : RefusedAt t ls r n ⊎ ((r ≡ 21) × RefusedAtEnd t ls n) → run t 1 start ls ≡ refused r n
+  refuses-so : RefusedAt t ls r n δ ⊎ ((r ≡ 21) × RefusedAtEnd t ls n δ) → run t 1 start ls δ ≡ refused r n
   refuses-so (inl w) =
-      let q = passable-passes t (w .before) (w .passable) in
-      let k = reason-stops t (w .before) (q .0) (q .1) (w .refusing) (w .reason) in
-      let o = passes-on t (w .before) 1 start (q .0) (w .refusing ∷ w .rest) (q .1) in
+      let q = passable-passes t δ (w .before) (w .passable) in
+      let k = reason-stops t δ (w .before) (q .0) (q .1) (w .refusing) (w .reason) in
+      let o = passes-on t δ (w .before) 1 start (q .0) (w .refusing ∷ w .rest) (q .1) in
       let v = w .number in
       let z : 1 + length (w .before) ≡ n = omega arith in
       rw (w .lines)
-      (o .1 ∙ ap (onto (o .0)) (run-stop t (1 + length (w .before)) (q .0) (w .refusing) (w .rest) r k)
+      (o .1 ∙ ap (onto (o .0)) (run-stop t δ (1 + length (w .before)) (q .0) (w .refusing) (w .rest) r k)
       ∙ onto-refused (o .0) r (1 + length (w .before)) ∙ ap (refused r) z)
   refuses-so (inr w) =
-      let q = passable-passes t ls (w .1 .passable) in
-      let u = unfinished t ls (q .0) (q .1) .1 (w .1 .unfinished) in
+      let q = passable-passes t δ ls (w .1 .passable) in
+      let u = unfinished t δ ls (q .0) (q .1) .1 (w .1 .unfinished) in
       let z = one-innermost ls (u .0) n (u .1) (w .1 .innermost) in
       let y = w .0 in
       u .2 ∙ rw (z, y)
 
-pub refused-by-blocks : (t : List ℕ) (ls : List (List ℕ)) (r n : ℕ)
-    → (run t 1 start ls ≡ refused r n) ↔ (RefusedAt t ls r n ⊎ ((r ≡ 21) × RefusedAtEnd t ls n))
-refused-by-blocks t ls r n = (has-reason t ls r n, refuses-so t ls r n)
+pub refused-by-blocks : (t : List ℕ) (δ : Dialect) (ls : List (List ℕ)) (r n : ℕ)
+    → (run t 1 start ls δ ≡ refused r n) ↔ (RefusedAt t ls r n δ ⊎ ((r ≡ 21) × RefusedAtEnd t ls n δ))
+refused-by-blocks t δ ls r n = (has-reason t δ ls r n, refuses-so t δ ls r n)

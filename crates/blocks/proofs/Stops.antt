@@ -6,7 +6,8 @@ use mathlib.Core.Path.{_≡_, refl, ap, _∙_}
 use mathlib.Core.Logic.{_⊎_, inl, inr}
 use mathlib.Core.List.{List, [], _∷_, _++_}
 use lib.ListN.{length}
-use Rattle.nesting.specs.Decide.{State, Outcome, go, stop}
+use Rattle.units.specs.declared.Dialect.{Dialect}
+use Rattle.groups.specs.Groups.{State, Outcome, go, stop}
 use Rattle.select.specs.Step.{step}
 use Rattle.select.specs.Select.{Result, accepted, refused, prepend, atEnd, after, run}
 use Rattle.select.proofs.LimitsCorrect.{never}
@@ -14,26 +15,26 @@ use Rattle.blocks.proofs.Passing.{Passes}
 use Rattle.blocks.proofs.Continuation.{onto}
 use Rattle.blocks.proofs.RunMeaning.{run-go}
 
-pub record Stopped (t : List ℕ) (n : ℕ) (s : State) (ls : List (List ℕ)) (r m : ℕ) : Type 0 where
+pub record Stopped (t : List ℕ) (δ : Dialect) (n : ℕ) (s : State) (ls : List (List ℕ)) (r m : ℕ) : Type 0 where
   pub before : List (List ℕ)
   pub at : List ℕ
   pub rest : List (List ℕ)
   pub lines : ls ≡ before ++ (at ∷ rest)
   pub number : m ≡ n + length before
   pub state : State
-  pub passes : Passes t n s before state
-  pub stops : step t m state at ≡ stop r
+  pub passes : Passes t δ n s before state
+  pub stops : step t m state at δ ≡ stop r
 
-pub record Ended (t : List ℕ) (n : ℕ) (s : State) (ls : List (List ℕ)) (r m : ℕ) : Type 0 where
+pub record Ended (t : List ℕ) (δ : Dialect) (n : ℕ) (s : State) (ls : List (List ℕ)) (r m : ℕ) : Type 0 where
   pub state : State
-  pub passes : Passes t n s ls state
+  pub passes : Passes t δ n s ls state
   pub unclosed : atEnd (state .groups) (state .count) ≡ refused r m
 
-module _ (t : List ℕ) where
+module _ (t : List ℕ) (δ : Dialect) where
   -- after one line that was passed
-  later : (l : List ℕ) (ls : List (List ℕ)) (n : ℕ) (s : State) (r m k : ℕ) (s′ : State) → step t n s l ≡ go k s′
-      → Stopped t (n + 1) s′ ls r m ⊎ Ended t (n + 1) s′ ls r m
-      → Stopped t n s (l ∷ ls) r m ⊎ Ended t n s (l ∷ ls) r m
+  later : (l : List ℕ) (ls : List (List ℕ)) (n : ℕ) (s : State) (r m k : ℕ) (s′ : State) → step t n s l δ ≡ go k s′
+      → Stopped t δ (n + 1) s′ ls r m ⊎ Ended t δ (n + 1) s′ ls r m
+      → Stopped t δ n s (l ∷ ls) r m ⊎ Ended t δ n s (l ∷ ls) r m
   later l ls n s r m k s′ q (inl w) =
       let v = w .number in
       inl (record {
@@ -48,56 +49,56 @@ module _ (t : List ℕ) where
       })
   later l ls n s r m k s′ q (inr w) = inr (record { state = w .state; passes = (k, s′, q, w .passes); unclosed = w .unclosed })
 
-  pub refused-where : (ls : List (List ℕ)) (n : ℕ) (s : State) (r m : ℕ) → run t n s ls ≡ refused r m → Stopped t n s ls r m ⊎ Ended t n s ls r m
+  pub refused-where : (ls : List (List ℕ)) (n : ℕ) (s : State) (r m : ℕ) → run t n s ls δ ≡ refused r m → Stopped t δ n s ls r m ⊎ Ended t δ n s ls r m
   unfolding run
   refused-where [] n s r m e = inr (record { state = s; passes = refl; unclosed = e })
-  refused-where (l ∷ ls) n s r m e = by (step t n s l) refl e (λ s′. refused-where ls (n + 1) s′ r m)
+  refused-where (l ∷ ls) n s r m e = by (step t n s l δ) refl e (λ s′. refused-where ls (n + 1) s′ r m)
     where
-      on : (k : ℕ) (s′ : State) → step t n s l ≡ go k s′ → (z : Result) → run t (n + 1) s′ ls ≡ z → prepend k z ≡ refused r m
-          → (run t (n + 1) s′ ls ≡ refused r m → Stopped t (n + 1) s′ ls r m ⊎ Ended t (n + 1) s′ ls r m)
-          → Stopped t n s (l ∷ ls) r m ⊎ Ended t n s (l ∷ ls) r m
+      on : (k : ℕ) (s′ : State) → step t n s l δ ≡ go k s′ → (z : Result) → run t (n + 1) s′ ls δ ≡ z → prepend k z ≡ refused r m
+          → (run t (n + 1) s′ ls δ ≡ refused r m → Stopped t δ (n + 1) s′ ls r m ⊎ Ended t δ (n + 1) s′ ls r m)
+          → Stopped t δ n s (l ∷ ls) r m ⊎ Ended t δ n s (l ∷ ls) r m
       on k s′ q (accepted ms c) p e ih = let z : _≡_ {A = ℕ} 0 1 = cc in absurd (omega arith)
       on k s′ q (refused a b) p e ih = later l ls n s r m k s′ q (ih (p ∙ e))
 
-      by : (o : Outcome) → step t n s l ≡ o → after o n (λ s′. run t (n + 1) s′ ls) ≡ refused r m
-          → ((s′ : State) → run t (n + 1) s′ ls ≡ refused r m → Stopped t (n + 1) s′ ls r m ⊎ Ended t (n + 1) s′ ls r m)
-          → Stopped t n s (l ∷ ls) r m ⊎ Ended t n s (l ∷ ls) r m
+      by : (o : Outcome) → step t n s l δ ≡ o → after o n (λ s′. run t (n + 1) s′ ls δ) ≡ refused r m
+          → ((s′ : State) → run t (n + 1) s′ ls δ ≡ refused r m → Stopped t δ (n + 1) s′ ls r m ⊎ Ended t δ (n + 1) s′ ls r m)
+          → Stopped t δ n s (l ∷ ls) r m ⊎ Ended t δ n s (l ∷ ls) r m
       by (stop k) q e ih =
           let a : k ≡ r = cc in
           let b : m ≡ n = cc in
           inl (record { before = []; at = l; rest = ls; lines = refl; number = omega (arith, b); state = s; passes = refl; stops = rw b (q ∙ ap stop a) })
-      by (go k s′) q e ih = on k s′ q (run t (n + 1) s′ ls) refl e (ih s′)
+      by (go k s′) q e ih = on k s′ q (run t (n + 1) s′ ls δ) refl e (ih s′)
 
   -- an accepted run passes the lines that it begins with
-  pub accepted-passes : (ls more : List (List ℕ)) (n : ℕ) (s : State) (ms : List ℕ) (c : ℕ) → run t n s (ls ++ more) ≡ accepted ms c
-      → (s′ : State) × Passes t n s ls s′
+  pub accepted-passes : (ls more : List (List ℕ)) (n : ℕ) (s : State) (ms : List ℕ) (c : ℕ) → run t n s (ls ++ more) δ ≡ accepted ms c
+      → (s′ : State) × Passes t δ n s ls s′
   unfolding run
   accepted-passes [] more n s ms c e = (s, refl)
-  accepted-passes (l ∷ ls) more n s ms c e = by (step t n s l) refl e (accepted-passes ls more (n + 1))
+  accepted-passes (l ∷ ls) more n s ms c e = by (step t n s l δ) refl e (accepted-passes ls more (n + 1))
     where
-      on : (k : ℕ) (s′ : State) → step t n s l ≡ go k s′ → (r : Result) → run t (n + 1) s′ (ls ++ more) ≡ r → prepend k r ≡ accepted ms c
-          → ((s′ : State) (ms : List ℕ) (c : ℕ) → run t (n + 1) s′ (ls ++ more) ≡ accepted ms c → (q : State) × Passes t (n + 1) s′ ls q)
-          → (q : State) × Passes t n s (l ∷ ls) q
+      on : (k : ℕ) (s′ : State) → step t n s l δ ≡ go k s′ → (r : Result) → run t (n + 1) s′ (ls ++ more) δ ≡ r → prepend k r ≡ accepted ms c
+          → ((s′ : State) (ms : List ℕ) (c : ℕ) → run t (n + 1) s′ (ls ++ more) δ ≡ accepted ms c → (q : State) × Passes t δ (n + 1) s′ ls q)
+          → (q : State) × Passes t δ n s (l ∷ ls) q
       on k s′ q (refused a b) p e ih = never _ a b ms c e
       on k s′ q (accepted ns d) p e ih = let w = ih s′ ns d p in (w .0, (k, s′, q, w .1))
 
-      by : (o : Outcome) → step t n s l ≡ o → after o n (λ s′. run t (n + 1) s′ (ls ++ more)) ≡ accepted ms c
-          → ((s′ : State) (ms : List ℕ) (c : ℕ) → run t (n + 1) s′ (ls ++ more) ≡ accepted ms c → (q : State) × Passes t (n + 1) s′ ls q)
-          → (q : State) × Passes t n s (l ∷ ls) q
+      by : (o : Outcome) → step t n s l δ ≡ o → after o n (λ s′. run t (n + 1) s′ (ls ++ more) δ) ≡ accepted ms c
+          → ((s′ : State) (ms : List ℕ) (c : ℕ) → run t (n + 1) s′ (ls ++ more) δ ≡ accepted ms c → (q : State) × Passes t δ (n + 1) s′ ls q)
+          → (q : State) × Passes t δ n s (l ∷ ls) q
       by (stop r) q e ih = never _ r n ms c e
-      by (go k s′) q e ih = on k s′ q (run t (n + 1) s′ (ls ++ more)) refl e ih
+      by (go k s′) q e ih = on k s′ q (run t (n + 1) s′ (ls ++ more) δ) refl e ih
 
   -- a run over lines that are passed continues with the others
-  pub passes-on : (ls : List (List ℕ)) (n : ℕ) (s s′ : State) (rest : List (List ℕ)) → Passes t n s ls s′
-      → (ms : List ℕ) × (run t n s (ls ++ rest) ≡ onto ms (run t (n + length ls) s′ rest))
+  pub passes-on : (ls : List (List ℕ)) (n : ℕ) (s s′ : State) (rest : List (List ℕ)) → Passes t δ n s ls s′
+      → (ms : List ℕ) × (run t n s (ls ++ rest) δ ≡ onto ms (run t (n + length ls) s′ rest δ))
   passes-on [] n s s′ rest e = ([], rw (e, add-zero n))
   passes-on (l ∷ ls) n s s′ rest p =
       let r = passes-on ls (n + 1) (p .1) s′ rest (p .3) in
       let q : n + suc (length ls) ≡ n + 1 + length ls = omega arith in
-      (p .0 ∷ r .0, run-go t n s l (ls ++ rest) (p .0) (p .1) (p .2) ∙ rw (r .1, q))
+      (p .0 ∷ r .0, run-go t δ n s l (ls ++ rest) (p .0) (p .1) (p .2) ∙ rw (r .1, q))
 
-  pub passes-append : (ls ms : List (List ℕ)) (n : ℕ) (s s′ s″ : State) → Passes t n s ls s′ → Passes t (n + length ls) s′ ms s″
-      → Passes t n s (ls ++ ms) s″
+  pub passes-append : (ls ms : List (List ℕ)) (n : ℕ) (s s′ s″ : State) → Passes t δ n s ls s′ → Passes t δ (n + length ls) s′ ms s″
+      → Passes t δ n s (ls ++ ms) s″
   passes-append [] ms n s s′ s″ e q = rw e (rw add-zero at q)
   passes-append (l ∷ ls) ms n s s′ s″ p q =
       let z : n + suc (length ls) ≡ n + 1 + length ls = omega arith in

@@ -5,25 +5,25 @@ use mathlib.Core.Path.{_≡_, refl, sym, _∙_}
 use mathlib.Core.Bool.{Bool, true, false}
 use mathlib.Core.List.{List, [], _∷_, _++_, append-assoc, append-nil}
 use lib.ListN.{length}
-use Rattle.line.specs.Directives.{directiveOf}
+use Rattle.units.specs.declared.Dialect.{Dialect}
+use Rattle.line.specs.Directives.{directiveOf, textOf}
 use Rattle.line.specs.declared.Directive.{Directive}
 use Rattle.line.specs.declared.Directive.the-variants.{Plain, If, Ifdef, Ifndef, Elseif, Else, Endif, Unknown}
-use Rattle.condition.specs.Conditions.{countOf}
 use Rattle.line.specs.declared.Condition.{Condition}
-use Rattle.ruling.specs.Rules.{elseifTransition, elseTransition, endTransition}
-use Rattle.nesting.specs.Groups.{Group, group}
-use Rattle.nesting.specs.Decide.{State, stop, decided}
-use Rattle.select.specs.Step.{readCondition, step}
+use Rattle.groups.specs.Rules.{plan}
+use Rattle.groups.specs.Groups.{Group, State, state, stop}
+use Rattle.select.specs.Step.{decided, step}
 use Rattle.select.specs.Select.{start}
-use Rattle.select.proofs.Steps.{decided-step}
+use Rattle.select.proofs.Steps.{said, decided-step}
 use Rattle.blocks.specs.Blocks.{Blocks, opens, Derives, depth}
 use Rattle.blocks.specs.Beginnings.{Whole, Begins}
 use Rattle.blocks.proofs.Passing.{Passes, Stray}
 use Rattle.blocks.proofs.MayFollow.{Rest}
+use Rattle.blocks.proofs.StepByWord.{some-open}
 use Rattle.blocks.proofs.GroupMoves.{flags, Moves, stay, enter, turn, final, leave, Can, Moving, decided-moves}
 use Rattle.blocks.proofs.TextFaults.{never-own}
 use Rattle.blocks.proofs.NextLine.{ahead}
-use Rattle.blocks.proofs.PassedLines.{Walk, walk-back, walk-ahead, walk-append, closers, completed, passes-walk, passes-proper}
+use Rattle.blocks.proofs.PassedLines.{Walk, walk-back, walk-ahead, walk-append, closers, completed, passes-walk}
 
 -- lines derive blocks exactly if they may follow while no group is open
 pub whole-rest : (ls : List (List ℕ)) (bs : Blocks) → Derives ls bs → Rest (depth bs) [] ls
@@ -58,26 +58,33 @@ moves-can leave = tt
 
 -- any other line is refused with 19, for any condition
 module _ (c : Condition) (n k : ℕ) (R : Type 0) where
+  before-else : (d : Directive) (g : Group) (gs : List Group) → (hs : List Bool) → Moves d (false ∷ flags gs) hs
+      → (g .flags .last ≡ true → decided d c n (state (g ∷ gs) k) ≡ stop 19)
+      → ((hs : List Bool) → Moves d (flags (g ∷ gs)) hs → R) → (decided d c n (state (g ∷ gs) k) ≡ stop 19 → R) → R
+  before-else d g gs hs v s f h = by (g .flags .last) refl
+    where
+      by : (b : Bool) → g .flags .last ≡ b → R
+      by true e = h (s e)
+      by false e = f hs (rw e v)
+
   pub move-or-stray : (d : Directive) → (d ≡ Unknown → ⊥) → (gs : List Group) → ((hs : List Bool) → Moves d (flags gs) hs → R)
-      → (decided d c n k gs ≡ stop 19 → R) → R
-  unfolding decided elseifTransition elseTransition endTransition
+      → (decided d c n (state gs k) ≡ stop 19 → R) → R
+  unfolding plan
   move-or-stray Plain u gs f g = f (flags gs) stay
   move-or-stray If u gs f g = f (false ∷ flags gs) (enter refl)
   move-or-stray Ifdef u gs f g = f (false ∷ flags gs) (enter refl)
   move-or-stray Ifndef u gs f g = f (false ∷ flags gs) (enter refl)
   move-or-stray Elseif u [] f g = g refl
-  move-or-stray Elseif u (group s true m ∷ gs) f g = g refl
-  move-or-stray Elseif u (group s false m ∷ gs) f g = f (false ∷ flags gs) turn
+  move-or-stray Elseif u (x ∷ gs) f g = before-else Elseif x gs (false ∷ flags gs) turn (λ e. rw (some-open x gs, e)) f g
   move-or-stray Else u [] f g = g refl
-  move-or-stray Else u (group s true m ∷ gs) f g = g refl
-  move-or-stray Else u (group s false m ∷ gs) f g = f (true ∷ flags gs) final
+  move-or-stray Else u (x ∷ gs) f g = before-else Else x gs (true ∷ flags gs) final (λ e. rw (some-open x gs, e)) f g
   move-or-stray Endif u [] f g = g refl
-  move-or-stray Endif u (group s b m ∷ gs) f g = f (flags gs) leave
+  move-or-stray Endif u (x ∷ gs) f g = f (flags gs) leave
   move-or-stray Unknown u gs f g = absurd (u refl)
 
-module _ (t : List ℕ) (ls : List (List ℕ)) (s : State) (p : Passes t 1 start ls s) where
+module _ (t : List ℕ) (δ : Dialect) (ls : List (List ℕ)) (s : State) (p : Passes t δ 1 start ls s) where
   walked : Walk [] ls (flags (s .groups))
-  walked = passes-walk t ls 1 start s p
+  walked = passes-walk t δ ls 1 start s p
 
   -- a line with which the lines begin blocks changes the groups
   begins-moves : (l : List ℕ) → Begins (ls ++ (l ∷ [])) → (gs : List Bool) × Moves (directiveOf l) (flags (s .groups)) gs
@@ -92,20 +99,18 @@ module _ (t : List ℕ) (ls : List (List ℕ)) (s : State) (p : Passes t 1 start
   moves-begins l gs m = walk-begins (ls ++ (l ∷ [])) gs (walk-append ls (l ∷ []) [] (flags (s .groups)) gs walked (gs, m, refl))
 
   module _ (n : ℕ) (l : List ℕ) (short : length l ≤ 1024) where
-    pub not-both : step t n s l ≡ stop 19 → Begins (ls ++ (l ∷ [])) → ⊥
+    pub not-both : step t n s l δ ≡ stop 19 → Begins (ls ++ (l ∷ [])) → ⊥
     not-both e b =
         let m = begins-moves l b in
-        let c = readCondition t (s .groups) l in
-        let f = decided-moves (directiveOf l) c n (s .count + countOf c) (s .groups) in
-        let g : Moving c (directiveOf l) n (s .groups) (stop 19) = rw (sym (decided-step t n s l short) ∙ e) at f in
-        g (never-own t (s .groups) l 19 (omega arith) (omega arith)) (passes-proper t ls 1 start s p tt) (moves-can (m .1)) refl
+        let f = decided-moves (directiveOf l) (said t δ n s l) n (s .count) (s .groups) in
+        let g : Moving (said t δ n s l) (directiveOf l) n (s .groups) (stop 19) = rw (sym (decided-step t δ n s l short) ∙ e) at f in
+        g (never-own t δ (directiveOf l) (textOf l) 19 (omega arith) (omega arith)) (moves-can (m .1)) refl
 
-    pub refuses : (directiveOf l ≡ Unknown → ⊥) → (Begins (ls ++ (l ∷ [])) → ⊥) → step t n s l ≡ stop 19
+    pub refuses : (directiveOf l ≡ Unknown → ⊥) → (Begins (ls ++ (l ∷ [])) → ⊥) → step t n s l δ ≡ stop 19
     refuses known h =
-        decided-step t n s l short
-        ∙ move-or-stray (readCondition t (s .groups) l) n (s .count + countOf (readCondition t (s .groups) l)) _ (directiveOf l) known (s .groups)
-        (λ gs m. absurd (h (moves-begins l gs m))) (λ e. e)
+        decided-step t δ n s l short
+        ∙ move-or-stray (said t δ n s l) n (s .count) _ (directiveOf l) known (s .groups) (λ gs m. absurd (h (moves-begins l gs m))) (λ e. e)
 
 pub stray : Stray
-stray t ls s p =
-    (walk-begins ls (flags (s .groups)) (walked t ls s p), λ n l short known. (not-both t ls s p n l short, refuses t ls s p n l short known))
+stray t δ ls s p =
+    (walk-begins ls (flags (s .groups)) (walked t δ ls s p), λ n l short known. (not-both t δ ls s p n l short, refuses t δ ls s p n l short known))

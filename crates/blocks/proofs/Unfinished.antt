@@ -5,11 +5,11 @@ use mathlib.Core.Path.{_≡_, refl, sym, ap, _∙_}
 use mathlib.Core.Bool.{Bool, true, false}
 use mathlib.Core.List.{List, [], _∷_, _++_, append-assoc, append-nil}
 use lib.ListN.{length, length-append, drop}
+use Rattle.units.specs.declared.Dialect.{Dialect}
 use Rattle.line.specs.Directives.{directiveOf}
 use Rattle.line.specs.declared.Directive.{Directive}
 use Rattle.line.specs.declared.Directive.the-variants.{Endif}
-use Rattle.nesting.specs.Groups.{Group, group as entry}
-use Rattle.nesting.specs.Decide.{State}
+use Rattle.groups.specs.Groups.{Group, State}
 use Rattle.select.specs.Select.{accepted, refused, atEnd, run, start}
 use Rattle.blocks.specs.Blocks.{Blocks, empty, group, Branches, endif, elseif, else, linesOf, linesIn, opens, Derives, depth}
 use Rattle.blocks.specs.Beginnings.{Whole, Innermost}
@@ -110,24 +110,24 @@ module _ (l : List ℕ) (n : ℕ) (ls : List (List ℕ)) (h : n ≡ length ls + 
   opened-moves ns (final {fs}) e o = opened-more false true fs ns ls (l ∷ []) (tt, true ∷ [], rw e final, refl) o
   opened-moves ns (leave {b} {fs}) e o = left b fs ns e o
 
-module _ (t : List ℕ) where
-  passes-opened : (ls : List (List ℕ)) (n : ℕ) (s s′ : State) (past : List (List ℕ)) → n ≡ length past + 1 → Passes t n s ls s′
+module _ (t : List ℕ) (δ : Dialect) where
+  passes-opened : (ls : List (List ℕ)) (n : ℕ) (s s′ : State) (past : List (List ℕ)) → n ≡ length past + 1 → Passes t δ n s ls s′
       → Opened (flags (s .groups)) (starts (s .groups)) past → Opened (flags (s′ .groups)) (starts (s′ .groups)) (past ++ ls)
   passes-opened [] n s s′ past h e o = rw (append-nil, sym e) o
   passes-opened (l ∷ ls) n s s′ past h p o =
-      let v : Moved (directiveOf l) n (s .groups) (p .1 .groups) = passed t n s l (p .0) (p .1) (p .2) .1 in
+      let v : Moved (directiveOf l) n (s .groups) (p .1 .groups) = passed t δ n s l (p .0) (p .1) (p .2) .1 in
       let w = opened-moves l n past h (starts (s .groups)) (v .moves) refl o in
       let x : Opened (flags (p .1 .groups)) (starts (p .1 .groups)) (past ++ (l ∷ [])) = rw (v .at) w in
       let q : past ++ (l ∷ ls) ≡ (past ++ (l ∷ [])) ++ ls = sym (append-assoc past (l ∷ []) ls) in
       rw q (passes-opened ls (n + 1) (p .1) s′ (past ++ (l ∷ [])) (omega (arith, length-append past (l ∷ []))) (p .3) x)
 
   -- a run over lines that are passed
-  passes-run : (ls : List (List ℕ)) (n : ℕ) (s s′ : State) → Passes t n s ls s′ → (ms : List ℕ) × (run t n s ls ≡ onto ms (atEnd (s′ .groups) (s′ .count)))
+  passes-run : (ls : List (List ℕ)) (n : ℕ) (s s′ : State) → Passes t δ n s ls s′ → (ms : List ℕ) × (run t n s ls δ ≡ onto ms (atEnd (s′ .groups) (s′ .count)))
   unfolding run
   passes-run [] n s s′ e = ([], ap (λ (x : State). atEnd (x .groups) (x .count)) e)
   passes-run (l ∷ ls) n s s′ p =
       let r = passes-run ls (n + 1) (p .1) s′ (p .3) in
-      (p .0 ∷ r .0, run-go t n s l ls (p .0) (p .1) (p .2) ∙ rw (r .1))
+      (p .0 ∷ r .0, run-go t δ n s l ls (p .0) (p .1) (p .2) ∙ rw (r .1))
 
 -- if a group is open, some line has to follow
 some-lines : (os : Branches) (ls : List (List ℕ)) → 0 < length (linesIn os ++ ls)
@@ -170,18 +170,22 @@ innermost b m Outer ls o = record {
         )
 
 pub unfinished : Unfinished
-unfinished t ls s p = by (s .groups) refl (passes-run t ls 1 start s p) (passes-walk t ls 1 start s p) (passes-opened t ls 1 start s [] refl p tt)
+unfinished t δ ls s p = by (s .groups) refl (passes-run t δ ls 1 start s p) (passes-walk t δ ls 1 start s p) (passes-opened t δ ls 1 start s [] refl p tt)
   where
-    by : (gs : List Group) → s .groups ≡ gs → ((ms : List ℕ) × (run t 1 start ls ≡ onto ms (atEnd (s .groups) (s .count))))
+    by : (gs : List Group) → s .groups ≡ gs → ((ms : List ℕ) × (run t 1 start ls δ ≡ onto ms (atEnd (s .groups) (s .count))))
         → Walk [] ls (flags (s .groups)) → Opened (flags (s .groups)) (starts (s .groups)) ls
-        → (Whole ls → (ms : List ℕ) × (run t 1 start ls ≡ accepted ms (s .count)))
-        × ((Whole ls → ⊥) → (m : ℕ) × Innermost ls m × (run t 1 start ls ≡ refused 21 m))
+        → (Whole ls → (ms : List ℕ) × (run t 1 start ls δ ≡ accepted ms (s .count)))
+        × ((Whole ls → ⊥) → (m : ℕ) × Innermost ls m × (run t 1 start ls δ ≡ refused 21 m))
     by [] e r w o = (
       λ _. (r .0 ++ [], r .1 ∙ rw e (onto-accepted (r .0) [] (s .count))),
       λ h. absurd (h (rest-whole (length ls) ls (rw append-nil at (walk-back (length ls) ls [] [] [] (omega arith) (rw e at w) (nothing-left (length ls)))))),
     )
-    by (entry z b m ∷ gs) e r w o = (
-      λ d. absurd (no-rest (depth (d .0)) b (flags gs)
-          (walk-ahead (depth (d .0)) ls [] (b ∷ flags gs) [] (rw e at w) (rw append-nil (whole-rest ls (d .0) (d .1))))),
-      λ h. (m, innermost b m (Opened (flags gs) (starts gs)) ls (rw e at o), r .1 ∙ rw e (onto-refused (r .0) 21 m)),
+    by (g ∷ gs) e r w o = (
+      λ d. absurd (no-rest (depth (d .0)) (g .flags .last) (flags gs)
+          (walk-ahead (depth (d .0)) ls [] (flags (g ∷ gs)) [] (rw e at w) (rw append-nil (whole-rest ls (d .0) (d .1))))),
+      λ h. (
+        g .line,
+        innermost (g .flags .last) (g .line) (Opened (flags gs) (starts gs)) ls (rw e at o),
+        r .1 ∙ rw e (onto-refused (r .0) 21 (g .line)),
+      ),
     )

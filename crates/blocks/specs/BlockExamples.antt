@@ -5,13 +5,14 @@ use Prim.Native.Nat.{ℕ}
 use mathlib.Core.Path.{_≡_, refl}
 use mathlib.Core.Bool.{Bool, true, false}
 use mathlib.Core.List.{List, [], _∷_}
+use Rattle.units.specs.Dialects.{STRICT}
 use Rattle.units.specs.Refusals.{DIVISOR-ZERO, DIRECTIVE-STRAY}
 use Rattle.text.specs.Bytes.{bytes, classOf}
 use Rattle.text.specs.Runs.{span}
 use Rattle.text.specs.Order.{compared}
 use Rattle.text.specs.Names.{macroName, pcdName}
-use Rattle.settings.specs.Table.{recordsIn, zeros, isName, wellFormedName, wellFormedKind, wellFormedRecord, wellFormedRecords, ascending, wellFormed}
-use Rattle.lookup.specs.Setting.{littleEndian, settingAt, settingUnderAt, settingUnder}
+use Rattle.settings.specs.Table.{recordsIn, zeros, isName, wellFormedName, orderedNames, ordered, plainKind, plainRecord, plainRecords, wellFormed}
+use Rattle.lookup.specs.Setting.{littleEndian, valueAt, settingUnderAt, settingUnder}
 use Rattle.literal.specs.Literal.{digitOf, valueIn, literal, isDecimal, isHexadecimal, hexadecimalOf, numberOf}
 use Rattle.lexeme.specs.Lexeme.{stringOf, stringAt, spelled, isWide, wordOf, macroOf, begins, leading, lexemeBy, lexeme}
 use Rattle.token.specs.Tokens.{readToken, readByte, readFrom, tooDeep, checkDepth, reading}
@@ -22,15 +23,13 @@ use Rattle.grammar.specs.Grammar.{isPrimary}
 use Rattle.grammar.specs.Parse.{run as runGoal, parse}
 use Rattle.grammar.specs.Bars.{barOutside}
 use Rattle.value.specs.Kinds.{unaryKind, binaryKind, choiceKind}
-use Rattle.value.specs.Values.{primaryValue, missingPcd, unaryValue, bothValues, binaryValue, choiceValue}
-use Rattle.evaluation.specs.Evaluation.{evaluation, ofTokens}
+use Rattle.value.specs.Values.{primaryValue, hasMissingPcd, unaryValue, bothValues, binaryValue, choiceValue}
+use Rattle.evaluation.specs.Evaluation.{evaluationIn, ofTokens}
 use Rattle.line.specs.Lines.{onto, endsLine, lines}
 use Rattle.line.specs.Directives.{named, wordStart, textStart, directiveOf}
 use Rattle.condition.specs.Conditions.{idle, ofAnswer, ofExpression, nameAt, ofNamed, ofMacro, evaluate}
-use Rattle.ruling.specs.States.{reads}
-use Rattle.ruling.specs.Rules.{elseifTransition, elseTransition, endTransition}
-use Rattle.nesting.specs.Decide.{opening, decided}
-use Rattle.select.specs.Step.{readCondition, step}
+use Rattle.groups.specs.Rules.{plan, settled}
+use Rattle.select.specs.Step.{step}
 use Rattle.select.specs.Select.{refused, run, start, selection}
 use Rattle.blocks.specs.SelectionExamples.{setting, file}
 use Rattle.blocks.specs.Blocks.{Blocks, empty, line, group, elseif, else, Derives}
@@ -67,20 +66,20 @@ unfolding onto endsLine lines named wordStart textStart directiveOf span compare
 whole-derives = record { lines = refl; words = (refl, (refl, tt), (refl, (refl, tt), (refl, (refl, tt), refl)), (refl, tt)) }
 
 pub meanings-hold : _≡_ {A = List Meaning}
-    (meaning (setting "FOO" 61 2) true whole ∷ meaning (setting "FOO" 61 3) true whole ∷ meaning [] true skipped ∷ [])
+    (meaning (setting "FOO" 61 2) true whole STRICT ∷ meaning (setting "FOO" 61 3) true whole STRICT ∷ meaning [] true skipped STRICT ∷ [])
     (means (4 ∷ 1 ∷ 2 ∷ 0 ∷ 3 ∷ 0 ∷ 5 ∷ 1 ∷ []) 1 ∷ fault DIVISOR-ZERO 2 ∷ means (3 ∷ 2 ∷ 0 ∷ 2 ∷ 0 ∷ 2 ∷ 2 ∷ 4 ∷ 1 ∷ 5 ∷ []) 0 ∷ [])
-unfolding meaning named wordStart textStart directiveOf evaluate ofExpression ofMacro ofNamed nameAt idle ofAnswer evaluation ofTokens barOutside recordsIn zeros isName wellFormedName wellFormedKind wellFormedRecord wellFormedRecords ascending wellFormed littleEndian settingAt settingUnderAt settingUnder reading readToken readByte readFrom tooDeep checkDepth classOf span compared macroName pcdName digitOf valueIn literal isDecimal isHexadecimal hexadecimalOf numberOf stringOf stringAt spelled isWide wordOf macroOf begins leading lexemeBy lexeme isPrimary isUnary levelOf runGoal parse unaryKind binaryKind choiceKind andDigits orDigits applyUnary applyBinary comparison compareNumbers primaryValue missingPcd unaryValue bothValues binaryValue choiceValue
+unfolding meaning named wordStart textStart directiveOf evaluate ofExpression ofMacro ofNamed nameAt idle ofAnswer evaluationIn ofTokens barOutside recordsIn littleEndian valueAt settingUnderAt settingUnder reading readToken readByte readFrom tooDeep checkDepth classOf span compared macroName pcdName digitOf valueIn literal isDecimal isHexadecimal hexadecimalOf numberOf stringOf stringAt spelled isWide wordOf macroOf begins leading lexemeBy lexeme isPrimary isUnary levelOf runGoal parse unaryKind binaryKind choiceKind andDigits orDigits applyUnary applyBinary comparison compareNumbers primaryValue hasMissingPcd unaryValue bothValues binaryValue choiceValue
 meanings-hold = refl
 
 -- which of their lines are read
 pub readings-hold : _≡_ {A = List (List Bool)}
-    (readsOf (setting "FOO" 61 2) true whole ∷ readsOf [] true skipped ∷ [])
+    (readsOf (setting "FOO" 61 2) true whole STRICT ∷ readsOf [] true skipped STRICT ∷ [])
     ((true ∷ false ∷ false ∷ false ∷ true ∷ false ∷ true ∷ false ∷ [])
     ∷ (true ∷ false ∷ false ∷ false ∷ false ∷ false ∷ false ∷ true ∷ false ∷ true ∷ [])
     ∷ [])
-unfolding readsOf named wordStart textStart directiveOf evaluate ofExpression ofMacro ofNamed nameAt idle ofAnswer evaluation ofTokens barOutside recordsIn zeros isName wellFormedName wellFormedKind wellFormedRecord wellFormedRecords ascending wellFormed littleEndian settingAt settingUnderAt settingUnder reading readToken readByte readFrom tooDeep checkDepth classOf span compared macroName pcdName digitOf valueIn literal isDecimal isHexadecimal hexadecimalOf numberOf stringOf stringAt spelled isWide wordOf macroOf begins leading lexemeBy lexeme isPrimary isUnary levelOf runGoal parse unaryKind binaryKind choiceKind andDigits orDigits applyUnary applyBinary comparison compareNumbers primaryValue missingPcd unaryValue bothValues binaryValue choiceValue
+unfolding readsOf named wordStart textStart directiveOf evaluate ofExpression ofMacro ofNamed nameAt idle ofAnswer evaluationIn ofTokens barOutside recordsIn littleEndian valueAt settingUnderAt settingUnder reading readToken readByte readFrom tooDeep checkDepth classOf span compared macroName pcdName digitOf valueIn literal isDecimal isHexadecimal hexadecimalOf numberOf stringOf stringAt spelled isWide wordOf macroOf begins leading lexemeBy lexeme isPrimary isUnary levelOf runGoal parse unaryKind binaryKind choiceKind andDigits orDigits applyUnary applyBinary comparison compareNumbers primaryValue hasMissingPcd unaryValue bothValues binaryValue choiceValue
 readings-hold = refl
 
-pub two-elses-refused : (run [] 1 start (lines twoElses) ≡ refused DIRECTIVE-STRAY 4) × (selection twoElses [] 6 ≡ refused DIRECTIVE-STRAY 4)
-unfolding selection run step readCondition opening decided elseifTransition elseTransition endTransition reads onto endsLine lines named wordStart textStart directiveOf evaluate ofMacro ofNamed nameAt idle recordsIn wellFormed ascending wellFormedRecords littleEndian settingAt settingUnderAt settingUnder classOf span compared macroName pcdName
+pub two-elses-refused : (run [] 1 start (lines twoElses) STRICT ≡ refused DIRECTIVE-STRAY 4) × (selection twoElses [] 6 STRICT ≡ refused DIRECTIVE-STRAY 4)
+unfolding selection run step plan settled onto endsLine lines named wordStart textStart directiveOf evaluate ofMacro ofNamed nameAt idle recordsIn orderedNames ordered plainRecords wellFormed littleEndian valueAt settingUnderAt settingUnder classOf span compared macroName pcdName
 two-elses-refused = (refl, refl)

@@ -5,13 +5,14 @@ use mathlib.Core.Path.{_≡_, refl}
 use mathlib.Core.Bool.{true}
 use mathlib.Core.List.{List, [], _∷_, _++_, map}
 use lib.ListN.{replicate}
+use Rattle.units.specs.Dialects.{STRICT}
 use Rattle.units.specs.Refusals.{NO-DERIVATION, CONDITION-VALUE, TEXT-MALFORMED}
 use Rattle.text.specs.Bytes.{bytes, classOf}
 use Rattle.text.specs.Runs.{span}
 use Rattle.text.specs.Order.{compared}
 use Rattle.text.specs.Names.{macroName, pcdName}
-use Rattle.settings.specs.Table.{recordsIn, zeros, isName, wellFormedName, wellFormedKind, wellFormedRecord, wellFormedRecords, ascending, wellFormed}
-use Rattle.lookup.specs.Setting.{littleEndian, settingAt, settingUnderAt, settingUnder}
+use Rattle.settings.specs.Table.{recordsIn, zeros, isName, wellFormedName, orderedNames, ordered, plainKind, plainRecord, plainRecords, wellFormed}
+use Rattle.lookup.specs.Setting.{littleEndian, valueAt, settingUnderAt, settingUnder}
 use Rattle.literal.specs.Literal.{digitOf, valueIn, literal, isDecimal, isHexadecimal, hexadecimalOf, numberOf}
 use Rattle.lexeme.specs.Lexeme.{stringOf, stringAt, spelled, isWide, wordOf, macroOf, begins, leading, lexemeBy, lexeme}
 use Rattle.token.specs.Tokens.{readToken, readByte, readFrom, tooDeep, checkDepth, reading}
@@ -22,8 +23,8 @@ use Rattle.grammar.specs.Grammar.{isPrimary}
 use Rattle.grammar.specs.Parse.{run, parse}
 use Rattle.grammar.specs.Bars.{barOutside}
 use Rattle.value.specs.Kinds.{unaryKind, binaryKind, choiceKind}
-use Rattle.value.specs.Values.{primaryValue, missingPcd, unaryValue, bothValues, binaryValue, choiceValue}
-use Rattle.evaluation.specs.Evaluation.{evaluation, ofTokens}
+use Rattle.value.specs.Values.{primaryValue, hasMissingPcd, unaryValue, bothValues, binaryValue, choiceValue}
+use Rattle.evaluation.specs.Evaluation.{evaluationIn, ofTokens}
 use Rattle.line.specs.declared.Directive.{Directive}
 use Rattle.line.specs.declared.Directive.the-variants.{If, Ifdef, Ifndef, Elseif, Else, Endif}
 use Rattle.condition.specs.Conditions.{idle, ofAnswer, ofExpression, nameAt, ofNamed, ofMacro, evaluate}
@@ -53,8 +54,8 @@ conditions =
     ∷ reads Elseif "\t1" (Holds 0)
     ∷ []
 
-conditions-hold : map (λ x. evaluate [] (x .directive) (bytes (x .text))) conditions ≡ map (λ x. x .condition) conditions
-unfolding evaluate ofExpression ofAnswer evaluation ofTokens barOutside recordsIn wellFormedRecords ascending wellFormed reading readToken readByte readFrom tooDeep checkDepth classOf span compared macroName pcdName digitOf valueIn literal isDecimal isHexadecimal hexadecimalOf numberOf stringOf stringAt spelled isWide wordOf macroOf begins leading lexemeBy lexeme isPrimary isUnary levelOf run parse unaryKind binaryKind choiceKind andDigits orDigits applyUnary applyBinary comparison compareNumbers primaryValue missingPcd unaryValue bothValues binaryValue choiceValue
+conditions-hold : map (λ x. evaluate [] (x .directive) (bytes (x .text)) STRICT) conditions ≡ map (λ x. x .condition) conditions
+unfolding evaluate ofExpression ofAnswer evaluationIn ofTokens barOutside recordsIn reading readToken readByte readFrom tooDeep checkDepth classOf span compared macroName pcdName digitOf valueIn literal isDecimal isHexadecimal hexadecimalOf numberOf stringOf stringAt spelled isWide wordOf macroOf begins leading lexemeBy lexeme isPrimary isUnary levelOf run parse unaryKind binaryKind choiceKind andDigits orDigits applyUnary applyBinary comparison compareNumbers primaryValue hasMissingPcd unaryValue bothValues binaryValue choiceValue
 conditions-hold = refl
 
 -- names that the table does not have, one too long for any table, texts that are no name, and directives that take none
@@ -79,7 +80,7 @@ texts =
     ∷ reads Endif " 1" (Refused TEXT-MALFORMED)
     ∷ []
 
-texts-hold : map (λ x. evaluate [] (x .directive) (bytes (x .text))) texts ≡ map (λ x. x .condition) texts
+texts-hold : map (λ x. evaluate [] (x .directive) (bytes (x .text)) STRICT) texts ≡ map (λ x. x .condition) texts
 unfolding evaluate ofMacro ofNamed nameAt idle span macroName recordsIn settingUnderAt settingUnder
 texts-hold = refl
 
@@ -88,7 +89,7 @@ abbrev table : List ℕ
 table = bytes "A" ++ (replicate 64 0 ++ (8 ∷ replicate 62 0))
 
 well-formed-table : wellFormed table ≡ true
-unfolding span compared macroName pcdName recordsIn zeros isName wellFormedName wellFormedKind wellFormedRecord wellFormedRecords ascending wellFormed
+unfolding span compared macroName pcdName recordsIn zeros isName wellFormedName orderedNames ordered plainKind plainRecord plainRecords wellFormed
 well-formed-table = refl
 
 -- whether a name is in the table, whatever its setting
@@ -99,6 +100,6 @@ names =
     ∷ reads Ifdef " AA" (Fails 0)
     ∷ []
 
-names-hold : map (λ x. evaluate table (x .directive) (bytes (x .text))) names ≡ map (λ x. x .condition) names
-unfolding evaluate ofMacro ofNamed nameAt idle span compared macroName recordsIn littleEndian settingAt settingUnderAt settingUnder
+names-hold : map (λ x. evaluate table (x .directive) (bytes (x .text)) STRICT) names ≡ map (λ x. x .condition) names
+unfolding evaluate ofMacro ofNamed nameAt idle span compared macroName recordsIn littleEndian valueAt settingUnderAt settingUnder
 names-hold = refl

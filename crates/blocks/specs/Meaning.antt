@@ -4,6 +4,7 @@ use Prim.Native.Nat.{ℕ, _+_, _≤_}
 use mathlib.Core.Bool.{Bool, true, false, not, _&&_}
 use mathlib.Core.List.{List, [], _∷_, _++_}
 use lib.ListN.{length}
+use Rattle.units.specs.declared.Dialect.{Dialect}
 use Rattle.text.specs.Bytes.{pick}
 use Rattle.line.specs.Directives.{directiveOf, textOf}
 use Rattle.line.specs.declared.Directive.the-variants.{Elseif, Else, Endif}
@@ -54,19 +55,20 @@ closing true (Refused r) = fault r 0
 -- The reading rule: `!if`, `!ifdef`, `!ifndef`, `!else` and `!endif` are read if the branch around their group is taken; `!elseif` is read
 -- if also no earlier branch of its group was taken. The blocks of a whole file have no branch around them, which counts as taken.
 unfoldable mutual
-  pub meaning : (t : List ℕ) → (around : Bool) → Blocks → Meaning
-  meaning t around empty = means [] 0
-  meaning t around (line l bs) = single (pick around 1 0) 0 then meaning t around bs
-  meaning t around (group l body os bs) =
-      branch around (evaluate t (directiveOf l) (textOf l)) false (λ live. meaning t live body) (λ earlier. branches t around earlier os)
-      then meaning t around bs
+  pub meaning : (t : List ℕ) → (around : Bool) → Blocks → Dialect → Meaning
+  meaning t around empty δ = means [] 0
+  meaning t around (line l bs) δ = single (pick around 1 0) 0 then meaning t around bs δ
+  meaning t around (group l body os bs) δ =
+      branch around (evaluate t (directiveOf l) (textOf l) δ) false (λ live. meaning t live body δ) (λ earlier. branches t around earlier os δ)
+      then meaning t around bs δ
 
-  pub branches : (t : List ℕ) → (around earlier : Bool) → Branches → Meaning
-  branches t around earlier (endif l) = closing around (evaluate t Endif (textOf l))
-  branches t around earlier (elseif l body os) =
-      branch (around && not earlier) (evaluate t Elseif (textOf l)) earlier (λ live. meaning t live body) (λ earlier′. branches t around earlier′ os)
-  branches t around earlier (else l body e) =
-      branch around (otherwise earlier (evaluate t Else (textOf l))) earlier (λ live. meaning t live body) (λ _. closing around (evaluate t Endif (textOf e)))
+  pub branches : (t : List ℕ) → (around earlier : Bool) → Branches → Dialect → Meaning
+  branches t around earlier (endif l) δ = closing around (evaluate t Endif (textOf l) δ)
+  branches t around earlier (elseif l body os) δ =
+      branch (around && not earlier) (evaluate t Elseif (textOf l) δ) earlier (λ live. meaning t live body δ) (λ earlier′. branches t around earlier′ os δ)
+  branches t around earlier (else l body e) δ =
+      branch around (otherwise earlier (evaluate t Else (textOf l) δ)) earlier (λ live. meaning t live body δ)
+      (λ _. closing around (evaluate t Endif (textOf e) δ))
 
 -- the result of a run over lines with this meaning: a fault is refused at its line, and lines count from 1
 abbrev pub resultOf : Meaning → Result

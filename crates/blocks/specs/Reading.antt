@@ -3,6 +3,7 @@
 use Prim.Native.Nat.{ℕ}
 use mathlib.Core.Bool.{Bool, true, false, not, _&&_, _||_}
 use mathlib.Core.List.{List, [], _∷_, _++_}
+use Rattle.units.specs.declared.Dialect.{Dialect}
 use Rattle.line.specs.Directives.{directiveOf, textOf}
 use Rattle.line.specs.declared.Directive.the-variants.{Elseif}
 use Rattle.condition.specs.Conditions.{evaluate}
@@ -19,17 +20,17 @@ holds (Refused r) = false
 -- For each line, whether it is a directive that is read. `around`: the branch around the blocks is taken. `earlier`: an earlier branch of
 -- the group was taken. A plain line is never read.
 unfoldable mutual
-  pub readsOf : (t : List ℕ) → (around : Bool) → Blocks → List Bool
-  readsOf t around empty = []
-  readsOf t around (line l bs) = false ∷ readsOf t around bs
-  readsOf t around (group l body os bs) =
-      let taken = around && holds (evaluate t (directiveOf l) (textOf l)) in
-      around ∷ (readsOf t taken body ++ (readsIn t around taken os ++ readsOf t around bs))
+  pub readsOf : (t : List ℕ) → (around : Bool) → Blocks → Dialect → List Bool
+  readsOf t around empty δ = []
+  readsOf t around (line l bs) δ = false ∷ readsOf t around bs δ
+  readsOf t around (group l body os bs) δ =
+      let taken = around && holds (evaluate t (directiveOf l) (textOf l) δ) in
+      around ∷ (readsOf t taken body δ ++ (readsIn t around taken os δ ++ readsOf t around bs δ))
 
-  pub readsIn : (t : List ℕ) → (around earlier : Bool) → Branches → List Bool
-  readsIn t around earlier (endif l) = around ∷ []
-  readsIn t around earlier (elseif l body os) =
+  pub readsIn : (t : List ℕ) → (around earlier : Bool) → Branches → Dialect → List Bool
+  readsIn t around earlier (endif l) δ = around ∷ []
+  readsIn t around earlier (elseif l body os) δ =
       let read = around && not earlier in
-      let taken = read && holds (evaluate t Elseif (textOf l)) in
-      read ∷ (readsOf t taken body ++ readsIn t around (earlier || taken) os)
-  readsIn t around earlier (else l body e) = around ∷ (readsOf t (around && not earlier) body ++ (around ∷ []))
+      let taken = read && holds (evaluate t Elseif (textOf l) δ) in
+      read ∷ (readsOf t taken body δ ++ readsIn t around (earlier || taken) os δ)
+  readsIn t around earlier (else l body e) δ = around ∷ (readsOf t (around && not earlier) body δ ++ (around ∷ []))

@@ -5,13 +5,14 @@ use Prim.Native.String.{String}
 use mathlib.Core.Path.{_≡_, refl}
 use mathlib.Core.List.{List, [], _∷_, _++_}
 use lib.ListN.{replicate}
+use Rattle.units.specs.Dialects.{STRICT}
 use Rattle.units.specs.Refusals.{DIVISOR-ZERO}
 use Rattle.text.specs.Bytes.{bytes, classOf}
 use Rattle.text.specs.Runs.{span}
 use Rattle.text.specs.Order.{compared}
 use Rattle.text.specs.Names.{macroName, pcdName}
-use Rattle.settings.specs.Table.{recordsIn, zeros, isName, wellFormedName, wellFormedKind, wellFormedRecord, wellFormedRecords, ascending, wellFormed}
-use Rattle.lookup.specs.Setting.{littleEndian, settingAt, settingUnderAt, settingUnder}
+use Rattle.settings.specs.Table.{recordsIn, zeros, isName, wellFormedName, orderedNames, ordered, plainKind, plainRecord, plainRecords, wellFormed}
+use Rattle.lookup.specs.Setting.{littleEndian, valueAt, settingUnderAt, settingUnder}
 use Rattle.literal.specs.Literal.{digitOf, valueIn, literal, isDecimal, isHexadecimal, hexadecimalOf, numberOf}
 use Rattle.lexeme.specs.Lexeme.{stringOf, stringAt, spelled, isWide, wordOf, macroOf, begins, leading, lexemeBy, lexeme}
 use Rattle.token.specs.Tokens.{readToken, readByte, readFrom, tooDeep, checkDepth, reading}
@@ -22,15 +23,13 @@ use Rattle.grammar.specs.Grammar.{isPrimary}
 use Rattle.grammar.specs.Parse.{run as runGoal, parse}
 use Rattle.grammar.specs.Bars.{barOutside}
 use Rattle.value.specs.Kinds.{unaryKind, binaryKind, choiceKind}
-use Rattle.value.specs.Values.{primaryValue, missingPcd, unaryValue, bothValues, binaryValue, choiceValue}
-use Rattle.evaluation.specs.Evaluation.{evaluation, ofTokens}
+use Rattle.value.specs.Values.{primaryValue, hasMissingPcd, unaryValue, bothValues, binaryValue, choiceValue}
+use Rattle.evaluation.specs.Evaluation.{evaluationIn, ofTokens}
 use Rattle.line.specs.Lines.{onto, endsLine, lines}
 use Rattle.line.specs.Directives.{named, wordStart, textStart, directiveOf}
 use Rattle.condition.specs.Conditions.{idle, ofAnswer, ofExpression, nameAt, ofNamed, ofMacro, evaluate}
-use Rattle.ruling.specs.States.{reads}
-use Rattle.ruling.specs.Rules.{elseifTransition, elseTransition, endTransition}
-use Rattle.nesting.specs.Decide.{opening, decided}
-use Rattle.select.specs.Step.{readCondition, step}
+use Rattle.groups.specs.Rules.{plan, settled}
+use Rattle.select.specs.Step.{step}
 use Rattle.select.specs.Select.{Result, accepted, refused, run, selection}
 
 -- a table of one number, below 256, under a name of three or four letters
@@ -50,10 +49,10 @@ meant = bytes "!if $(WEEK) GE 48 OR $(WEEK) LE 5\nWatchdog\n!endif\n"
 -- with room for eight marks
 abbrev pub results : List Result
 results =
-    selection file (setting "FOO" 61 2) 8
-    ∷ selection file (setting "FOO" 61 3) 8
-    ∷ selection never (setting "WEEK" 60 50) 8
-    ∷ selection meant (setting "WEEK" 60 50) 8
+    selection file (setting "FOO" 61 2) 8 STRICT
+    ∷ selection file (setting "FOO" 61 3) 8 STRICT
+    ∷ selection never (setting "WEEK" 60 50) 8 STRICT
+    ∷ selection meant (setting "WEEK" 60 50) 8 STRICT
     ∷ []
 
 pub results-hold : results ≡ accepted (4 ∷ 1 ∷ 2 ∷ 0 ∷ 3 ∷ 0 ∷ 5 ∷ 1 ∷ []) 1
@@ -61,5 +60,5 @@ pub results-hold : results ≡ accepted (4 ∷ 1 ∷ 2 ∷ 0 ∷ 3 ∷ 0 ∷ 5 �
     ∷ accepted (3 ∷ 0 ∷ 5 ∷ []) 3
     ∷ accepted (4 ∷ 1 ∷ 5 ∷ []) 2
     ∷ []
-unfolding selection run step readCondition opening decided elseifTransition elseTransition endTransition reads onto endsLine lines named wordStart textStart directiveOf evaluate ofExpression ofMacro ofNamed nameAt idle ofAnswer evaluation ofTokens barOutside recordsIn zeros isName wellFormedName wellFormedKind wellFormedRecord wellFormedRecords ascending wellFormed littleEndian settingAt settingUnderAt settingUnder reading readToken readByte readFrom tooDeep checkDepth classOf span compared macroName pcdName digitOf valueIn literal isDecimal isHexadecimal hexadecimalOf numberOf stringOf stringAt spelled isWide wordOf macroOf begins leading lexemeBy lexeme isPrimary isUnary levelOf runGoal parse unaryKind binaryKind choiceKind andDigits orDigits applyUnary applyBinary comparison compareNumbers primaryValue missingPcd unaryValue bothValues binaryValue choiceValue
+unfolding selection run step plan settled onto endsLine lines named wordStart textStart directiveOf evaluate ofExpression ofMacro ofNamed nameAt idle ofAnswer evaluationIn ofTokens barOutside recordsIn zeros isName wellFormedName orderedNames ordered plainKind plainRecord plainRecords wellFormed littleEndian valueAt settingUnderAt settingUnder reading readToken readByte readFrom tooDeep checkDepth classOf span compared macroName pcdName digitOf valueIn literal isDecimal isHexadecimal hexadecimalOf numberOf stringOf stringAt spelled isWide wordOf macroOf begins leading lexemeBy lexeme isPrimary isUnary levelOf runGoal parse unaryKind binaryKind choiceKind andDigits orDigits applyUnary applyBinary comparison compareNumbers primaryValue hasMissingPcd unaryValue bothValues binaryValue choiceValue
 results-hold = refl

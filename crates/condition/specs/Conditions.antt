@@ -1,18 +1,20 @@
 -- The condition in the text after the word of a directive that is read (document 01, "Lines and directives"): it holds or fails, with the
--- number of operators that were applied; or it is refused: 22, then the refusals of the expression, then 13.
+-- number of operators that were applied; or it is refused: 22, then the refusals of the expression, then 13. `δ` is the dialect.
 use Prim.Native.Nat.{ℕ, _+_}
 use mathlib.Core.Bool.{Bool, true, false, not, _&&_, _||_}
 use mathlib.Core.List.{List}
 use lib.ListN.{length, getD, take, drop}
 use lib.Dec.{eqb, ltb, leb}
 use Rattle.units.specs.Refusals.{CONDITION-VALUE, TEXT-MALFORMED}
+use Rattle.units.specs.declared.Dialect.{Dialect}
 use Rattle.text.specs.Bytes.{byte, pick, blank}
 use Rattle.text.specs.Runs.{span}
 use Rattle.text.specs.Names.{macroName}
 use Rattle.text.specs.declared.runs.Set.the-variants.{Blanks}
 use Rattle.lookup.specs.Setting.{settingUnder}
-use Rattle.value.specs.Values.{number, string, wide, fault, isMissing}
-use Rattle.evaluation.specs.Evaluation.{Evaluation, value, refused, evaluation}
+use Rattle.value.specs.Places.{over}
+use Rattle.value.specs.Values.{number, text, fault}
+use Rattle.evaluation.specs.Evaluation.{Evaluation, value, refused, evaluationIn}
 use Rattle.line.specs.declared.Directive.{Directive}
 use Rattle.line.specs.declared.Directive.the-variants.{Plain, If, Ifdef, Ifndef, Elseif, Else, Endif, Unknown}
 use Rattle.line.specs.declared.Condition.{Condition}
@@ -40,14 +42,13 @@ ofNumber x n = pick (eqb x 1) (Holds n) (pick (eqb x 0) (Fails n) (Refused CONDI
 -- the answer to an expression as a condition (the value of an answer is never a fault)
 unfoldable pub ofAnswer : Evaluation → Condition
 ofAnswer (value (number x) n) = ofNumber x n
-ofAnswer (value (string p s) n) = Refused CONDITION-VALUE
-ofAnswer (value (wide p s) n) = Refused CONDITION-VALUE
+ofAnswer (value (text k p s) n) = Refused CONDITION-VALUE
 ofAnswer (value (fault r) n) = Refused CONDITION-VALUE
 ofAnswer (refused r) = Refused (r .number)
 
 -- `!if` and `!elseif`: the argument is all of the text
-unfoldable pub ofExpression : (t : List ℕ) → List ℕ → Condition
-ofExpression t s = pick (spaced s) (ofAnswer (evaluation s t)) (Refused TEXT-MALFORMED)
+unfoldable pub ofExpression : (t : List ℕ) → List ℕ → Dialect → Condition
+ofExpression t s δ = pick (spaced s) (ofAnswer (evaluationIn (over s t) δ)) (Refused TEXT-MALFORMED)
 
 -- the name of a macro at the front of a text: its start, its length, which is 0 if there is none, and the start of the text after it
 abbrev pub nameOver : (start len after : ℕ) → Named
@@ -64,46 +65,47 @@ usedOver n s = pick (eqb (getD s 1 0) (byte "(") && eqb (getD s (2 + n) 0) (byte
 abbrev pub usedName : List ℕ → Named
 usedName s = usedOver (macroName (drop 2 s)) s
 
-unfoldable pub nameAt : List ℕ → Named
-nameAt s = pick (eqb (getD s 0 0) (byte "$")) (usedName s) (plainName s)
+-- one of the two; the dialect decides nothing here yet
+unfoldable pub nameAt : List ℕ → Dialect → Named
+nameAt s δ = pick (eqb (getD s 0 0) (byte "$")) (usedName s) (plainName s)
 
 -- a test as a condition; no operator is applied
 abbrev pub tested : Bool → Condition
 tested b = pick b (Holds 0) (Fails 0)
 
--- whether a name is in the table, or is missing, as wanted
-abbrev pub decided : (wanted missing : Bool) → Condition
-decided wanted missing = tested (pick wanted (not missing) missing)
+-- whether a name is in the table, or is not, as wanted
+abbrev pub decided : (wanted found : Bool) → Condition
+decided wanted found = tested (pick wanted found (not found))
 
 -- there is a name at the front, and only blanks and an optional comment follow it
 abbrev pub alone : List ℕ → Named → Bool
 alone s n = ltb 0 (n .len) && idle (drop (n .after .0) s)
 
--- the table has no record under the name
-abbrev pub absent : (t : List ℕ) → List ℕ → Named → Bool
-absent t s n = isMissing (settingUnder t (take (n .len) (drop (n .start .0) s)))
+-- the table has a record under the name
+abbrev pub present : (t : List ℕ) → List ℕ → Named → Bool
+present t s n = settingUnder t (take (n .len) (drop (n .start .0) s)) .found
 
 -- the condition in a text s with this name at its front
 unfoldable pub ofNamed : (t : List ℕ) → (wanted : Bool) → List ℕ → Named → Condition
-ofNamed t wanted s n = pick (alone s n) (decided wanted (absent t s n)) (Refused TEXT-MALFORMED)
+ofNamed t wanted s n = pick (alone s n) (decided wanted (present t s n)) (Refused TEXT-MALFORMED)
 
 -- `!ifdef` if `wanted` is true, `!ifndef` if it is false: the name of one macro, after blanks, before blanks and an optional comment
-unfoldable pub ofMacro : (t : List ℕ) → (wanted : Bool) → List ℕ → Condition
-ofMacro t wanted s =
+unfoldable pub ofMacro : (t : List ℕ) → (wanted : Bool) → List ℕ → Dialect → Condition
+ofMacro t wanted s δ =
     let m : List ℕ = drop (span Blanks s) s in
-    pick (spaced s) (ofNamed t wanted m (nameAt m)) (Refused TEXT-MALFORMED)
+    pick (spaced s) (ofNamed t wanted m (nameAt m δ)) (Refused TEXT-MALFORMED)
 
 -- `!else` and `!endif`
 abbrev pub ofNothing : List ℕ → Condition
 ofNothing s = pick (idle s) (Holds 0) (Refused TEXT-MALFORMED)
 
 -- the condition in the text s after the word of a directive, over a table t; a plain line and an unknown word get a fixed one
-unfoldable pub evaluate : (t : List ℕ) → Directive → List ℕ → Condition
-evaluate t If s = ofExpression t s
-evaluate t Elseif s = ofExpression t s
-evaluate t Ifdef s = ofMacro t true s
-evaluate t Ifndef s = ofMacro t false s
-evaluate t Else s = ofNothing s
-evaluate t Endif s = ofNothing s
-evaluate t Plain s = Fails 0
-evaluate t Unknown s = Fails 0
+unfoldable pub evaluate : (t : List ℕ) → Directive → List ℕ → Dialect → Condition
+evaluate t If s δ = ofExpression t s δ
+evaluate t Elseif s δ = ofExpression t s δ
+evaluate t Ifdef s δ = ofMacro t true s δ
+evaluate t Ifndef s δ = ofMacro t false s δ
+evaluate t Else s δ = ofNothing s
+evaluate t Endif s δ = ofNothing s
+evaluate t Plain s δ = Fails 0
+evaluate t Unknown s δ = Fails 0

@@ -4,11 +4,11 @@ use evaluation::Answer;
 use evaluation::AnswerValue;
 use evaluation::outcome;
 use line::Condition;
+use units::Dialect;
 ghost use mathlib.Core.Path.{_≡_};
 ghost use mathlib.Core.Bool.{true};
-ghost use mathlib.Core.List.{List};
-ghost use Prim.Native.Nat.{ℕ};
-ghost use Rattle.settings.specs.Table.{wellFormed};
+ghost use Rattle.settings.specs.Table.{ordered};
+ghost use Rattle.value.specs.Places.{Memory};
 ghost use Rattle.evaluation.specs.Evaluation.{denoteAnswer};
 ghost use Rattle.condition.specs.Conditions.{ofNumber, ofAnswer, ofExpression};
 
@@ -25,7 +25,7 @@ fn of_number(x: u64, count: usize) -> Condition
 }
 
 fn of_answer(a: Answer) -> Condition
-    ensures { λ r. ⌜ ((e t : List ℕ) → r ≡ ofAnswer (denoteAnswer e t a)) ⌝ }
+    ensures { λ r. ⌜ ((m : Memory) → r ≡ ofAnswer (denoteAnswer m a)) ⌝ }
 {
     match a {
         Answer::Refused(r) => Condition::Refused(r.number),
@@ -38,12 +38,12 @@ fn of_answer(a: Answer) -> Condition
 }
 
 // The argument is all of the text.
-pub fn of_expression<'a>(table: &'a [u8], text: &'a [u8]) -> Condition
-    requires { ⌜ wellFormed (now table) ≡ true ⌝ }
-    ensures { λ r. ⌜ r ≡ ofExpression (now (table .entry)) (now (text .entry)) ⌝ }
+pub fn of_expression<'a>(table: &'a [u8], text: &'a [u8], dialect: Dialect) -> Condition
+    requires { ⌜ ordered (now table) ≡ true ⌝ }
+    ensures { λ r. ⌜ r ≡ ofExpression (now (table .entry)) (now (text .entry)) dialect ⌝ }
 {
     if !blanks::is_spaced(text) {
         return Condition::Refused(units::TEXT_MALFORMED);
     }
-    of_answer(outcome::evaluate_in(text, table))
+    of_answer(outcome::evaluate_in(text, table, dialect))
 }

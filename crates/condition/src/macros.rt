@@ -6,11 +6,11 @@ use text::names;
 use text::parts;
 use text::runs;
 use text::runs::Set;
+use units::Dialect;
 use units::Offset;
-use value::values;
 ghost use mathlib.Core.Path.{_≡_};
 ghost use mathlib.Core.Bool.{true};
-ghost use Rattle.settings.specs.Table.{wellFormed};
+ghost use Rattle.settings.specs.Table.{ordered};
 ghost use Rattle.condition.specs.Conditions.{nameOver, plainName, usedName, nameAt, tested, decided, ofNamed, ofMacro};
 
 // The name of a macro at the front of a text: its start, its length, which is 0 if there is none, and the start of the text after it.
@@ -48,8 +48,8 @@ fn used_name(text: &[u8]) -> Named
     name_over(Offset(2), n, Offset(n + 3))
 }
 
-fn name_at(text: &[u8]) -> Named
-    ensures { λ r. ⌜ r ≡ nameAt (now (text .entry)) ⌝ }
+fn name_at(text: &[u8], dialect: Dialect) -> Named
+    ensures { λ r. ⌜ r ≡ nameAt (now (text .entry)) dialect ⌝ }
 {
     if bytes::byte_at(text, Offset(0)) == b'$' {
         used_name(text)
@@ -68,19 +68,19 @@ fn as_condition(holds: bool) -> Condition
     }
 }
 
-// Whether a name is in the table, or is missing, as wanted.
-fn decide(wanted: bool, missing: bool) -> Condition
-    ensures { λ r. ⌜ r ≡ decided wanted missing ⌝ }
+// Whether a name is in the table, or is not, as wanted.
+fn decide(wanted: bool, found: bool) -> Condition
+    ensures { λ r. ⌜ r ≡ decided wanted found ⌝ }
 {
     if wanted {
-        return as_condition(!missing);
+        return as_condition(found);
     }
-    as_condition(missing)
+    as_condition(!found)
 }
 
 // The condition in a text with this name at its front.
 fn of_named(table: &[u8], wanted: bool, text: &[u8], n: Named) -> Condition
-    requires { ⌜ wellFormed (now table) ≡ true ⌝ }
+    requires { ⌜ ordered (now table) ≡ true ⌝ }
     ensures { λ r. ⌜ r ≡ ofNamed (now (table .entry)) wanted (now (text .entry)) n ⌝ }
 {
     if n.len == 0 {
@@ -92,13 +92,14 @@ fn of_named(table: &[u8], wanted: bool, text: &[u8], n: Named) -> Condition
     }
     let start = n.start;
     let name = parts::part(text, start, n.len);
-    decide(wanted, values::is_missing(lookup::lookup(table, name)))
+    let s = lookup::lookup(table, name);
+    decide(wanted, s.found)
 }
 
 // `!ifdef` if `wanted` is true, `!ifndef` if it is false.
-pub fn of_macro(table: &[u8], wanted: bool, text: &[u8]) -> Condition
-    requires { ⌜ wellFormed (now table) ≡ true ⌝ }
-    ensures { λ r. ⌜ r ≡ ofMacro (now (table .entry)) wanted (now (text .entry)) ⌝ }
+pub fn of_macro(table: &[u8], wanted: bool, text: &[u8], dialect: Dialect) -> Condition
+    requires { ⌜ ordered (now table) ≡ true ⌝ }
+    ensures { λ r. ⌜ r ≡ ofMacro (now (table .entry)) wanted (now (text .entry)) dialect ⌝ }
 {
     if !blanks::is_spaced(text) {
         return Condition::Refused(units::TEXT_MALFORMED);
@@ -106,5 +107,5 @@ pub fn of_macro(table: &[u8], wanted: bool, text: &[u8]) -> Condition
     let first = runs::run_end(text, Offset(0), Set::Blanks);
     let start = first.0;
     let rest = &text[start..];
-    of_named(table, wanted, rest, name_at(rest))
+    of_named(table, wanted, rest, name_at(rest, dialect))
 }

@@ -1,14 +1,14 @@
 -- After a scan the arrays hold the tokens of the list, one after the other. Assumes nothing.
 use Prim.Native.Nat.{ℕ, zero, suc, _+_, _≤_, _<_}
 use native.Mathlib.Omega.{arith}
-use mathlib.Core.Path.{_≡_, refl, ap, _∙_, fun-ext}
+use mathlib.Core.Path.{_≡_, refl, sym, ap, _∙_, fun-ext}
 use mathlib.Core.Bool.{Bool, true, false}
-use mathlib.Core.List.{List, [], _∷_, _++_, map}
-use lib.ListN.{length, getD, take, drop, length-map, List·getD-eq-default}
+use mathlib.Core.List.{List, [], _∷_, _++_, map, append-assoc}
+use lib.ListN.{length, getD, take, drop, length-map, length-append, List·getD-eq-default}
 use lib.Seq.{sets-eq, take-at, length-sets}
 use lib.Dec.{ltb}
 use borrow.Author.Tests.{ltb-true, ltb-false}
-use Rattle.settings.specs.Table.{wellFormed}
+use Rattle.units.specs.declared.Dialect.{Dialect}
 use Rattle.text.specs.Parts.{stored}
 use Rattle.token.specs.Tokens.{Token, Reading, codesOf, reading, Stored}
 use Rattle.token.specs.Steps.{Room}
@@ -17,7 +17,10 @@ use Rattle.token.proofs.Reading.{most-tokens}
 use Rattle.grammar.specs.Parse.{parse}
 use Rattle.expression.specs.Meaning.{codeOf, meaning}
 use Rattle.expression.specs.Parsing.{tokenAt, Holding}
-use Rattle.evaluation.specs.Evaluation.{END-TOKEN, tokenIn, answerTokens, ofTokens, evaluation}
+use Rattle.value.specs.Places.{Memory}
+use Rattle.value.specs.Values.{hasMissingPcd}
+use Rattle.evaluation.specs.Tokens.{tokensFrom}
+use Rattle.evaluation.specs.Evaluation.{END-TOKEN, tokenIn, barRefused, answerTokens, ofTokens, evaluationIn}
 
 -- one entry of each token, stored in a list with room for all
 module _ (f : Token → ℕ) (ts : List Token) (l l′ : List ℕ) (fits : length ts ≤ length l) (so : l′ ≡ stored (map f ts) l) where
@@ -62,33 +65,51 @@ module _ (read : Reading) (cs ss ls vs cs′ ss′ ls′ vs′ : List ℕ) (so :
     pub tokens-read : tokenAt cs′ ss′ ls′ vs′ (length (read .tokens)) ≡ tokenIn (read .tokens)
     tokens-read = fun-ext at
 
-module _ (e t : List ℕ) {cs₀ ss₀ ls₀ vs₀ cs ss ls vs : List ℕ} (room : Room (reading e) cs₀ ss₀ ls₀ vs₀)
-    (so : Stored (reading e) cs₀ ss₀ ls₀ vs₀ cs ss ls vs)
+getD-at : (us : List Token) (t : Token) (ts : List Token) → getD (us ++ (t ∷ ts)) (length us) END-TOKEN ≡ t
+getD-at [] t ts = refl
+getD-at (u ∷ us) t ts = getD-at us t ts
+
+-- the tokens of a list, read one after the other
+from-list : (us ts : List Token) → tokensFrom (tokenIn (us ++ ts)) (length us) (length ts) ≡ ts
+unfolding tokensFrom
+from-list us [] = refl
+from-list us (t ∷ ts) =
+    let here : tokenIn (us ++ (t ∷ ts)) (length us) ≡ t = getD-at us t ts in
+    let more : us ++ (t ∷ ts) ≡ (us ++ (t ∷ [])) ++ ts = sym (append-assoc us (t ∷ []) ts) in
+    let long : length us + 1 ≡ length (us ++ (t ∷ [])) = sym (length-append us (t ∷ [])) in
+    rw here (rw (more, long, from-list (us ++ (t ∷ [])) ts))
+
+module _ (m : Memory) (δ : Dialect) {cs₀ ss₀ ls₀ vs₀ cs ss ls vs : List ℕ} (room : Room (reading (m .expression) δ) cs₀ ss₀ ls₀ vs₀)
+    (so : Stored (reading (m .expression) δ) cs₀ ss₀ ls₀ vs₀ cs ss ls vs)
   where
-    kept : (f : Token → ℕ) (l l′ : List ℕ) → l′ ≡ stored (map f (reading e .tokens)) l → length l′ ≡ length l
-    kept f l l′ q = ap length q ∙ length-sets l 0 (map f (reading e .tokens))
+    abbrev read : Reading
+    read = reading (m .expression) δ
+
+    kept : (f : Token → ℕ) (l l′ : List ℕ) → l′ ≡ stored (map f (read .tokens)) l → length l′ ≡ length l
+    kept f l l′ q = ap length q ∙ length-sets l 0 (map f (read .tokens))
 
     -- the arrays hold the tokens
-    pub holding : (n : ℕ) → n ≡ length (reading e .tokens) → Holding cs ss ls vs n
+    pub holding : (n : ℕ) → n ≡ length (read .tokens) → Holding cs ss ls vs n
     holding n c =
         record {
-          few = omega (arith, c, most-tokens e);
+          few = omega (arith, c, most-tokens (m .expression) δ);
           codes = omega (arith, c, room .codes-hold, kept (λ k. k .code) cs₀ cs (so .codes-are));
           starts = omega (arith, c, room .starts-hold, kept (λ k. k .start) ss₀ ss (so .starts-are));
           lens = omega (arith, c, room .lens-hold, kept (λ k. k .len) ls₀ ls (so .lens-are));
           values = omega (arith, c, room .values-hold, kept (λ k. k .value) vs₀ vs (so .values-are));
         }
 
-    -- if the table is well formed and reading met no refusal, the answer to the arrays is the answer to the expression
-    pub answers : wellFormed t ≡ true → (n : ℕ) → n ≡ length (reading e .tokens) → reading e .ending ≡ Complete
-        → answerTokens (take n cs) (parse codeOf (meaning e t) (tokenAt cs ss ls vs n) n) ≡ evaluation e t
-    unfolding evaluation ofTokens
-    answers sound n c y =
-        let codes = codes-read (reading e) cs₀ ss₀ ls₀ vs₀ cs ss ls vs so (room .codes-hold) (room .starts-hold) (room .lens-hold) (room .values-hold) in
-        let tokens = tokens-read (reading e) cs₀ ss₀ ls₀ vs₀ cs ss ls vs so (room .codes-hold) (room .starts-hold) (room .lens-hold) (room .values-hold) in
-        rw (sound, c, y, codes, tokens)
+    -- if reading met no refusal, the answer to the arrays is the answer to the expression
+    pub answers : (n : ℕ) → n ≡ length (read .tokens) → read .ending ≡ Complete
+        → answerTokens (barRefused (take n cs) δ) (hasMissingPcd m (tokensFrom (tokenAt cs ss ls vs n) 0 n))
+        (parse codeOf (meaning m) (tokenAt cs ss ls vs n) n) ≡ evaluationIn m δ
+    unfolding evaluationIn ofTokens
+    answers n c y =
+        let codes = codes-read read cs₀ ss₀ ls₀ vs₀ cs ss ls vs so (room .codes-hold) (room .starts-hold) (room .lens-hold) (room .values-hold) in
+        let tokens = tokens-read read cs₀ ss₀ ls₀ vs₀ cs ss ls vs so (room .codes-hold) (room .starts-hold) (room .lens-hold) (room .values-hold) in
+        rw (c, y, codes, tokens, from-list [] (read .tokens))
 
 -- as many entries as bytes, or 200, are room enough
-pub room-of : (e : List ℕ) {cs ss ls vs : List ℕ} (most : ℕ) → length (reading e .tokens) ≤ most
-    → most ≤ length cs → most ≤ length ss → most ≤ length ls → most ≤ length vs → Room (reading e) cs ss ls vs
-room-of e most h c s l v = record { codes-hold = omega arith; starts-hold = omega arith; lens-hold = omega arith; values-hold = omega arith }
+pub room-of : (e : List ℕ) (δ : Dialect) {cs ss ls vs : List ℕ} (most : ℕ) → length (reading e δ .tokens) ≤ most
+    → most ≤ length cs → most ≤ length ss → most ≤ length ls → most ≤ length vs → Room (reading e δ) cs ss ls vs
+room-of e δ most h c s l v = record { codes-hold = omega arith; starts-hold = omega arith; lens-hold = omega arith; values-hold = omega arith }

@@ -8,6 +8,7 @@ use mathlib.Core.List.{List}
 use lib.ListN.{length}
 use Rattle.units.specs.Refusals.{refusal}
 use Rattle.units.specs.declared.Refusal.{Refusal}
+use Rattle.units.specs.declared.Dialect.{Dialect}
 use Rattle.text.specs.Bytes.{pick}
 use Rattle.text.proofs.Laws.{pick-case}
 use Rattle.settings.specs.Table.{wellFormed}
@@ -16,16 +17,16 @@ use Rattle.token.specs.declared.scan.Ending.{Ending}
 use Rattle.token.specs.declared.scan.Ending.the-variants.{Complete, Refused}
 use Rattle.grammar.specs.Grammar.{Tree, expression, Derives}
 use Rattle.grammar.specs.Fold.{fold}
-use Rattle.grammar.specs.Bars.{barOutside}
 use Rattle.grammar.specs.Parse.{Outcome, refused as underived, accepted, parse, Reads}
 use Rattle.grammar.proofs.Lists.{list-reads}
 use Rattle.grammar.proofs.Decided.{evaluates, bounded}
-use Rattle.value.specs.Values.{Value, number, string, wide, fault}
+use Rattle.value.specs.Places.{Memory}
+use Rattle.value.specs.Values.{Value, number, text, fault, hasMissingPcd}
 use Rattle.value.specs.Attributes.{Attributes}
 use Rattle.expression.specs.Meaning.{codeOf, meaning}
 use Rattle.expression.proofs.Ready.{counts}
 use Rattle.evaluation.specs.Evaluation.{Evaluation, value, refused, refusedWith, answerValue, clashes, checkThenAnswer, END-TOKEN}
-use Rattle.evaluation.specs.Evaluation.{tokenIn, answerTokens, ofTokens, ended, evaluation}
+use Rattle.evaluation.specs.Evaluation.{tokenIn, barRefused, answerTokens, ofTokens, ended, evaluationIn, evaluation}
 
 -- the attributes of an answered value: their kinds do not clash, and their value is no fault
 pub record GivenBy (v : Value) (n : ℕ) (a : Attributes) : Type 0 where
@@ -43,46 +44,58 @@ module _ (v : Value) (n : ℕ) where
 
   answer-value-given : (a : Attributes) → clashes (a .kind) ≡ false → (w : Value) → a .value ≡ w → IfValue a (answerValue w (a .count))
   answer-value-given a h (number x) g e = let w : v ≡ number x = cc in record { suited = h; count = cc; value = cc; given = rw w }
-  answer-value-given a h (string p s) g e = let w : v ≡ string p s = cc in record { suited = h; count = cc; value = cc; given = rw w }
-  answer-value-given a h (wide p s) g e = let w : v ≡ wide p s = cc in record { suited = h; count = cc; value = cc; given = rw w }
+  answer-value-given a h (text k p s) g e = let w : v ≡ text k p s = cc in record { suited = h; count = cc; value = cc; given = rw w }
   answer-value-given a h (fault r) g e = absurd (never (refusal r) e)
 
-  pub check-then-answer-given : (bar : Bool) (a : Attributes) → IfValue a (checkThenAnswer bar a)
-  check-then-answer-given bar a =
+  pub check-then-answer-given : (bar missing : Bool) (a : Attributes) → IfValue a (checkThenAnswer bar missing a)
+  check-then-answer-given bar missing a =
       pick-case (IfValue a) bar (λ _ e. absurd (never _ e))
-      (λ _. pick-case (IfValue a) (a .missing) (λ _ e. absurd (never _ e))
+      (λ _. pick-case (IfValue a) missing (λ _ e. absurd (never _ e))
       (λ _. pick-case (IfValue a) (clashes (a .kind)) (λ _ e. absurd (never _ e))
       (λ c. answer-value-given a c (a .value) refl)))
 
-module _ (e t : List ℕ) where
-  pub tokens-read : Reads codeOf (reading e .tokens) (tokenIn (reading e .tokens))
-  tokens-read = list-reads codeOf END-TOKEN refl (reading e .tokens)
+module _ (m : Memory) (δ : Dialect) where
+  abbrev read : List Token
+  read = reading (m .expression) δ .tokens
+
+  pub tokens-read : Reads codeOf read (tokenIn read)
+  tokens-read = list-reads codeOf END-TOKEN refl read
 
   -- a value is that of a tree that the tokens derive
   abbrev FromTree : (v : Value) (n : ℕ) → Type 0
-  FromTree v n = (s : Tree Token) × Derives codeOf expression (reading e .tokens) s × GivenBy v n (fold (meaning e t) s)
+  FromTree v n = (s : Tree Token) × Derives codeOf expression read s × GivenBy v n (fold (meaning m) s)
 
   -- by the result of the parser
-  by-outcome : (o : Outcome Attributes) → parse codeOf (meaning e t) (tokenIn (reading e .tokens)) (length (reading e .tokens)) ≡ o
-      → (v : Value) (n : ℕ) → answerTokens (codesOf (reading e .tokens)) o ≡ value v n → FromTree v n
+  by-outcome : (o : Outcome Attributes) → parse codeOf (meaning m) (tokenIn read) (length read) ≡ o
+      → (v : Value) (n : ℕ) → answerTokens (barRefused (codesOf read) δ) (hasMissingPcd m read) o ≡ value v n → FromTree v n
   by-outcome (underived i) p v n h = absurd (never v n _ h)
   by-outcome (accepted a) p v n h =
-      let r = evaluates tokens-read (meaning e t) .accepted-exactly a .0 p in
+      let r = evaluates tokens-read (meaning m) .accepted-exactly a .0 p in
       let s : Tree Token = r .0 in
-      let k : checkThenAnswer (barOutside 0 (codesOf (reading e .tokens))) (fold (meaning e t) s) ≡ value v n = rw (← r .2) h in
-      (s, r .1, check-then-answer-given v n (barOutside 0 (codesOf (reading e .tokens))) (fold (meaning e t) s) k)
+      let bar = barRefused (codesOf read) δ in
+      let k : checkThenAnswer bar (hasMissingPcd m read) (fold (meaning m) s) ≡ value v n = rw (← r .2) h in
+      (s, r .1, check-then-answer-given v n bar (hasMissingPcd m read) (fold (meaning m) s) k)
 
-  pub from-tree : (v : Value) (n : ℕ) → evaluation e t ≡ value v n → FromTree v n
-  unfolding evaluation ofTokens
-  from-tree v n = by (wellFormed t) (reading e .ending)
+  pub from-tree : (v : Value) (n : ℕ) → evaluationIn m δ ≡ value v n → FromTree v n
+  unfolding evaluationIn ofTokens
+  from-tree v n = by (reading (m .expression) δ .ending)
     where
-      by : (b : Bool) (y : Ending) → pick b (ended y (ofTokens e t (reading e .tokens))) (refusedWith 1) ≡ value v n → FromTree v n
-      by false y h = absurd (never v n _ h)
-      by true (Refused r) h = absurd (never v n _ h)
-      by true Complete h = by-outcome (parse codeOf (meaning e t) (tokenIn (reading e .tokens)) (length (reading e .tokens))) refl v n h
+      by : (y : Ending) → ended y (ofTokens m read δ) ≡ value v n → FromTree v n
+      by (Refused r) h = absurd (never v n _ h)
+      by Complete h = by-outcome (parse codeOf (meaning m) (tokenIn read) (length read)) refl v n h
 
   -- fewer operators were applied than the expression has tokens
-  pub counted : (v : Value) (n : ℕ) → evaluation e t ≡ value v n → n < length (reading e .tokens)
+  pub counted : (v : Value) (n : ℕ) → evaluationIn m δ ≡ value v n → n < length read
   counted v n h =
       let r = from-tree v n h in
-      omega (arith, r .2 .count, bounded codeOf (meaning e t) (λ a. a .count) (counts e t) (reading e .tokens) (r .0) (r .1))
+      omega (arith, r .2 .count, bounded codeOf (meaning m) (λ a. a .count) (counts m) read (r .0) (r .1))
+
+  -- an answered value is answered over a well-formed table
+  pub over-well-formed : (v : Value) (n : ℕ) → evaluation m δ ≡ value v n → (wellFormed (m .table) ≡ true) × (evaluationIn m δ ≡ value v n)
+  unfolding evaluation
+  over-well-formed v n = by (wellFormed (m .table)) refl
+    where
+      by : (b : Bool) → wellFormed (m .table) ≡ b → pick b (evaluationIn m δ) (refusedWith 1) ≡ value v n
+          → (wellFormed (m .table) ≡ true) × (evaluationIn m δ ≡ value v n)
+      by false e h = absurd (never v n _ h)
+      by true e h = (e, h)

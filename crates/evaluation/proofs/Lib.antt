@@ -1,3 +1,4 @@
 pub mod Depth
 pub mod Arrays
 pub mod FromTree
+pub mod MissingFrom

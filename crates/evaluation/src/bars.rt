@@ -1,4 +1,5 @@
 // Bars outside parentheses.
+use units::Dialect;
 use units::TokenNumber;
 ghost use mathlib.Core.Path.{_≡_};
 ghost use mathlib.Core.Bool.{_&&_};
@@ -6,6 +7,7 @@ ghost use Prim.Native.Nat.{_≤_, _<_};
 ghost use lib.ListN.{length, take};
 ghost use lib.Dec.{eqb};
 ghost use Rattle.grammar.specs.Bars.{isBar, deeper as deeperOf, barOutside};
+ghost use Rattle.evaluation.specs.Evaluation.{barRefused};
 
 fn is_bar(c: u8) -> bool
     ensures { λ r. ⌜ r ≡ isBar c ⌝ }
@@ -34,8 +36,19 @@ fn deeper(depth: usize, c: u8) -> usize
     if depth == 0 { 0 } else { depth - 1 }
 }
 
+// Whether one of the first n tokens is a bar outside all parentheses, and the dialect does not allow it.
+pub fn is_refused(codes: &[u8; 200], count: TokenNumber, dialect: Dialect) -> bool
+    requires { ⌜ (count .0 ≤ 200) × (count .0 ≤ length (now codes)) ⌝ }
+    ensures { λ r. ⌜ r ≡ barRefused (take (count .0) (now (codes .entry))) dialect ⌝ }
+{
+    if dialect.bars {
+        return false;
+    }
+    has_outside(codes, count)
+}
+
 // Whether one of the first n tokens is a bar outside all parentheses.
-pub fn outside(codes: &[u8; 200], count: TokenNumber) -> bool
+fn has_outside(codes: &[u8; 200], count: TokenNumber) -> bool
     requires { ⌜ (count .0 ≤ 200) × (count .0 ≤ length (now codes)) ⌝ }
     ensures { λ r. ⌜ r ≡ barOutside 0 (take (count .0) (now (codes .entry))) ⌝ }
 {

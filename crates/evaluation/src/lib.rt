@@ -1,9 +1,10 @@
 // The answer to an expression: its value and the number of operators that were applied, or a refusal.
 mod bars;
+mod missing;
 pub mod outcome;
 
+use lookup::Place;
 use units::Refusal;
-use value::Place;
 
 // A value by its kind. A string is a part of the expression or of the table.
 pub enum AnswerValue {

@@ -10,11 +10,14 @@ use lib.Seq.{drop-cons, getD-take, length-take-le}
 use borrow.Author.Tests.{le-leb, lt-leb, eq-eqb, ne-eqb}
 use Rattle.codes.specs.Codes.{QUESTION}
 use Rattle.grammar.specs.Grammar.{isPrimary}
-use Rattle.value.specs.Attributes.{Attributes, unaryFrom, binaryFrom, choiceFrom}
+use Rattle.token.specs.Tokens.{Token}
+use Rattle.value.specs.Places.{Memory}
+use Rattle.value.specs.Attributes.{Attributes, primaryOf, unaryFrom, binaryFrom, choiceFrom}
 use Rattle.operands.specs.Stack.{operandAt, countAt, piled, Leaves}
 use Rattle.operands.proofs.Piles.{pile-length, latest}
 use Rattle.syntax.specs.Order.{UNARY, FILLER}
-use Rattle.expression.specs.Postfix.{Input, codeIn, primaryIn, Entry, operand, unary, binary, choice, filler, entryOf, OnOne, OnTwo, OnThree, Does, Gives}
+use Rattle.expression.specs.Postfix.{Input, codeIn, tokenIn, Entry, operand, unary, binary, choice, filler, entryOf, OnOne, OnTwo, OnThree}
+use Rattle.expression.specs.Postfix.{Does, Gives}
 
 -- the sort of an entry, from the tests
 module _ (i : Input) (x : ℕ) where
@@ -40,33 +43,33 @@ drop-taken (suc m) [] = refl
 drop-taken (suc m) (x ∷ o) = drop-taken m o
 
 -- the operands of an operator on top of the stack w
-module _ (e t : List ℕ) (w : List (List ℕ)) (top : ℕ) (go : List Attributes → Type 0) where
-  one : {o : ℕ} (g : OnOne o (piled e t w top) go) → (0 < top) × (g .a ≡ operandAt e t w (top - 1)) × (g .rest ≡ piled e t w (top - 1))
-  one g = latest e t w top (g .a) (g .rest) (g .shape)
+module _ (m : Memory) (w : List (List ℕ)) (top : ℕ) (go : List Attributes → Type 0) where
+  one : {o : Token} (g : OnOne o (piled m w top) go) → (0 < top) × (g .a ≡ operandAt m w (top - 1)) × (g .rest ≡ piled m w (top - 1))
+  one g = latest m w top (g .a) (g .rest) (g .shape)
 
-  two : {o : ℕ} (g : OnTwo o (piled e t w top) go)
-      → (1 < top) × (g .a ≡ operandAt e t w (top - 2)) × (g .b ≡ operandAt e t w (top - 2 + 1)) × (g .rest ≡ piled e t w (top - 2))
+  two : {o : Token} (g : OnTwo o (piled m w top) go)
+      → (1 < top) × (g .a ≡ operandAt m w (top - 2)) × (g .b ≡ operandAt m w (top - 2 + 1)) × (g .rest ≡ piled m w (top - 2))
   two g =
-      let last = latest e t w top (g .b) (g .a ∷ g .rest) (g .shape) in
-      let first = latest e t w (top - 1) (g .a) (g .rest) (sym (last .2)) in
+      let last = latest m w top (g .b) (g .a ∷ g .rest) (g .shape) in
+      let first = latest m w (top - 1) (g .a) (g .rest) (sym (last .2)) in
       let p : top - 1 - 1 ≡ top - 2 = omega arith in
       let q : top - 1 ≡ top - 2 + 1 = omega (arith, first .0) in
       (omega (arith, first .0), rw p at (first .1), rw q at (last .1), rw p at (first .2))
 
-  three : (g : OnThree (piled e t w top) go)
-      → (2 < top) × (g .c ≡ operandAt e t w (top - 3)) × (g .a ≡ operandAt e t w (top - 3 + 1)) × (g .b ≡ operandAt e t w (top - 3 + 2))
-      × (g .rest ≡ piled e t w (top - 3))
+  three : {o : Token} (g : OnThree o (piled m w top) go)
+      → (2 < top) × (g .c ≡ operandAt m w (top - 3)) × (g .a ≡ operandAt m w (top - 3 + 1)) × (g .b ≡ operandAt m w (top - 3 + 2))
+      × (g .rest ≡ piled m w (top - 3))
   three g =
-      let last = latest e t w top (g .b) (g .a ∷ g .c ∷ g .rest) (g .shape) in
-      let middle = latest e t w (top - 1) (g .a) (g .c ∷ g .rest) (sym (last .2)) in
-      let first = latest e t w (top - 1 - 1) (g .c) (g .rest) (sym (middle .2)) in
+      let last = latest m w top (g .b) (g .a ∷ g .c ∷ g .rest) (g .shape) in
+      let middle = latest m w (top - 1) (g .a) (g .c ∷ g .rest) (sym (last .2)) in
+      let first = latest m w (top - 1 - 1) (g .c) (g .rest) (sym (middle .2)) in
       let p : top - 1 - 1 - 1 ≡ top - 3 = omega arith in
       let q : top - 1 - 1 ≡ top - 3 + 1 = omega (arith, first .0) in
       let r : top - 1 ≡ top - 3 + 2 = omega (arith, first .0) in
       (omega (arith, first .0), rw p at (first .1), rw q at (middle .1), rw r at (last .1), rw p at (first .2))
 
 -- the stack that an operator leaves
-placed : {e t : List ℕ} {w w′ : List (List ℕ)} {a : Attributes} {j : ℕ} (h : ℕ) → j + 1 ≡ h → Leaves e t w j a w′ → piled e t w′ h ≡ a ∷ piled e t w j
+placed : {m : Memory} {w w′ : List (List ℕ)} {a : Attributes} {j : ℕ} (h : ℕ) → j + 1 ≡ h → Leaves m w j a w′ → piled m w′ h ≡ a ∷ piled m w j
 placed h f l = rw f at (l .top)
 
 -- the evaluation of an order: its input, the room for operands, and the number of its entries
@@ -81,10 +84,10 @@ entries k = take (k .filled) (k .order)
 
 -- the first operands of a stack
 abbrev pub pile : Work → List (List ℕ) → ℕ → List Attributes
-pile k w top = piled (k .i .e) (k .i .t) w top
+pile k w top = piled (k .i .m) w top
 
 abbrev pub at : Work → List (List ℕ) → ℕ → Attributes
-at k w j = operandAt (k .i .e) (k .i .t) w j
+at k w j = operandAt (k .i .m) w j
 
 -- with `top` operands on the stack w, the entries from p on leave what all entries leave
 pub record Rest (k : Work) (w : List (List ℕ)) (top p : ℕ) : Type 0 where
@@ -102,7 +105,7 @@ pub record Next (k : Work) (y : Entry) (x : ℕ) (w : List (List ℕ)) (top p : 
 
 -- w′ holds the operands of w up to j, and then a
 abbrev pub Left : Work → List (List ℕ) → ℕ → Attributes → List (List ℕ) → Type 0
-Left k w j a w′ = Leaves (k .i .e) (k .i .t) w j a w′
+Left k w j a w′ = Leaves (k .i .m) w j a w′
 
 module _ {k : Work} {w : List (List ℕ)} {top p : ℕ} where
   -- the next entry
@@ -119,26 +122,26 @@ module _ {k : Work} {w : List (List ℕ)} {top p : ℕ} where
   -- the operands that an entry finds, if all entries leave something
   module _ {x : ℕ} where
     pub operand-room : Next k operand x w top p → (v : Attributes) → Gives (k .i) (k .most) [] (entries k) v → top < k .most
-    operand-room r v g = omega (arith, r .does v g .0, pile-length (k .i .e) (k .i .t) w top)
+    operand-room r v g = omega (arith, r .does v g .0, pile-length (k .i .m) w top)
 
     pub unary-finds : Next k unary x w top p → (v : Attributes) → Gives (k .i) (k .most) [] (entries k) v → (0 < top) × (countAt w (top - 1) ≤ 200)
     unary-finds r v g =
         let h = r .does v g in
-        let f = one (k .i .e) (k .i .t) w top _ h in
+        let f = one (k .i .m) w top _ h in
         (f .0, omega (arith, h .few, ap (λ a. a .count) (f .1)))
 
     pub binary-finds : Next k binary x w top p → (v : Attributes) → Gives (k .i) (k .most) [] (entries k) v
         → (1 < top) × (countAt w (top - 2) + countAt w (top - 2 + 1) ≤ 400)
     binary-finds r v g =
         let h = r .does v g in
-        let f = two (k .i .e) (k .i .t) w top _ h in
+        let f = two (k .i .m) w top _ h in
         (f .0, omega (arith, h .few, ap (λ a. a .count) (f .1), ap (λ a. a .count) (f .2)))
 
     pub choice-finds : Next k choice x w top p → (v : Attributes) → Gives (k .i) (k .most) [] (entries k) v
         → (2 < top) × (countAt w (top - 3) + countAt w (top - 3 + 1) + countAt w (top - 3 + 2) ≤ 600)
     choice-finds r v g =
         let h = r .does v g in
-        let f = three (k .i .e) (k .i .t) w top _ h in
+        let f = three (k .i .m) w top _ h in
         (f .0, omega (arith, h .few, ap (λ a. a .count) (f .1), ap (λ a. a .count) (f .2), ap (λ a. a .count) (f .3)))
 
   -- the remaining entries after an entry
@@ -146,35 +149,37 @@ module _ {k : Work} {w : List (List ℕ)} {top p : ℕ} where
   filler-on r = record { leaves = r .does }
 
   module _ {x : ℕ} (w′ : List (List ℕ)) where
-    pub operand-on : Next k operand x w top p → Left k w top (primaryIn (k .i) x) w′ → Rest k w′ (top + 1) (p + 1)
+    pub operand-on : Next k operand x w top p → Left k w top (primaryOf (k .i .m) (tokenIn (k .i) x)) w′ → Rest k w′ (top + 1) (p + 1)
     operand-on r l = record { leaves = λ v g. rw (l .top) (r .does v g .1) }
 
-    pub unary-on : (o : ℕ) → o ≡ codeIn (k .i) (x - UNARY) → Next k unary x w top p → Left k w (top - 1) (unaryFrom o (at k w (top - 1))) w′
+    pub unary-on : (o : Token) → o ≡ tokenIn (k .i) (x - UNARY) → Next k unary x w top p → Left k w (top - 1) (unaryFrom o (at k w (top - 1))) w′
         → Rest k w′ top (p + 1)
     unary-on o q r l =
         record {
           leaves = λ v g.
               let h = r .does v g in
-              let z = one (k .i .e) (k .i .t) w top _ h in
+              let z = one (k .i .m) w top _ h in
               rw (placed top (omega (arith, z .0)) l, q) (rw (z .1, z .2) at (h .next));
         }
 
-    pub binary-on : (o : ℕ) → o ≡ codeIn (k .i) x → Next k binary x w top p → Left k w (top - 2) (binaryFrom o (at k w (top - 2)) (at k w (top - 2 + 1))) w′
+    pub binary-on : (o : Token) → o ≡ tokenIn (k .i) x → Next k binary x w top p
+        → Left k w (top - 2) (binaryFrom o (at k w (top - 2)) (at k w (top - 2 + 1))) w′
         → Rest k w′ (top - 1) (p + 1)
     binary-on o q r l =
         record {
           leaves = λ v g.
               let h = r .does v g in
-              let z = two (k .i .e) (k .i .t) w top _ h in
+              let z = two (k .i .m) w top _ h in
               rw (placed (top - 1) (omega (arith, z .0)) l, q) (rw (z .1, z .2, z .3) at (h .next));
         }
 
-    pub choice-on : Next k choice x w top p → Left k w (top - 3) (choiceFrom (at k w (top - 3)) (at k w (top - 3 + 1)) (at k w (top - 3 + 2))) w′
+    pub choice-on : (o : Token) → Next k choice x w top p
+        → Left k w (top - 3) (choiceFrom o (at k w (top - 3)) (at k w (top - 3 + 1)) (at k w (top - 3 + 2))) w′
         → Rest k w′ (top - 2) (p + 1)
-    choice-on r l =
+    choice-on o r l =
         record {
           leaves = λ v g.
               let h = r .does v g in
-              let z = three (k .i .e) (k .i .t) w top _ h in
+              let z = three (k .i .m) w top _ h in
               rw (placed (top - 2) (omega (arith, z .0)) l) (rw (z .1, z .2, z .3, z .4) at (h .next));
         }

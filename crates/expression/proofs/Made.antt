@@ -10,7 +10,6 @@ use lib.Dec.{eqb}
 use borrow.Author.Tests.{eqb-true, le-ltb}
 use Rattle.text.specs.Bytes.{pick}
 use Rattle.codes.specs.Codes.{OPEN, CLOSE, QUESTION, COLON}
-use Rattle.token.specs.Tokens.{Token}
 use Rattle.codes.specs.Levels.{isUnary, levelOf}
 use Rattle.grammar.specs.Grammar.{Nonterminal, level, expression, isPrimary}
 use Rattle.grammar.specs.Parse.{END, Goal, find, extend, Result, bad, got, andThen, step, run, size, Yields}
@@ -20,13 +19,12 @@ use Rattle.grammar.proofs.Inside.{primary-inside, level-inside, code-inside}
 use Rattle.syntax.specs.Order.{UNARY, FILLER, postfix, Ordered}
 use Rattle.syntax.proofs.Orders.{ended}
 use Rattle.value.specs.Values.{skips}
-use Rattle.value.specs.Attributes.{Attributes, firstArm, unaryFrom, binaryFrom, choiceFrom}
+use Rattle.value.specs.Attributes.{Attributes, firstArm, primaryOf, unaryFrom, binaryFrom, choiceFrom}
 use Rattle.value.specs.declared.Attributes.{Attributes as CodedAttributes}
 use Rattle.value.specs.Denote.{denoteAttributes}
 use Rattle.value.proofs.Laws.{skipped-most, chosen-most}
 use Rattle.expression.specs.Meaning.{codeOf, meaning}
-use Rattle.expression.specs.Parsing.{tokenAt}
-use Rattle.expression.specs.Postfix.{Input, codeIn, primaryIn, Gives}
+use Rattle.expression.specs.Postfix.{Input, codeIn, tokenIn, Gives}
 use Rattle.expression.proofs.Entries.{is-unary, is-operand, is-filler, is-choice, is-binary}
 
 -- a binary operator is no primary, and neither is a `?` or the end
@@ -45,10 +43,6 @@ end-not-primary : (c : ℕ) → c ≡ END → isPrimary c ≡ false
 unfolding isPrimary
 end-not-primary c e = ap isPrimary e
 
--- token x
-abbrev tokenIn : Input → ℕ → Token
-tokenIn i x = tokenAt (i .codes) (i .starts) (i .lens) (i .values) (i .n) x
-
 -- one step, and a run with fuel, over the numbers of the tokens and over the tokens
 abbrev orderStep : Input → (Goal (List ℕ) → Result (List ℕ)) → Goal (List ℕ) → Result (List ℕ)
 orderStep i rec g = step (codeIn i) postfix (λ j. j) rec g
@@ -57,10 +51,10 @@ abbrev orders : Input → ℕ → Goal (List ℕ) → Result (List ℕ)
 orders i fuel g = run (codeIn i) postfix (λ j. j) fuel g
 
 abbrev parseStep : Input → (Goal Attributes → Result Attributes) → Goal Attributes → Result Attributes
-parseStep i rec g = step codeOf (meaning (i .e) (i .t)) (tokenIn i) rec g
+parseStep i rec g = step codeOf (meaning (i .m)) (tokenIn i) rec g
 
 abbrev parses : Input → ℕ → Goal Attributes → Result Attributes
-parses i fuel g = run codeOf (meaning (i .e) (i .t)) (tokenIn i) fuel g
+parses i fuel g = run codeOf (meaning (i .m)) (tokenIn i) fuel g
 
 module _ (i : Input) (most : ℕ) (few : i .n ≤ 200) where
   -- the entries l leave the operand a, and need no more room than half their number
@@ -72,7 +66,7 @@ module _ (i : Input) (most : ℕ) (few : i .n ≤ 200) where
     runs : (s : List Attributes) (k : List ℕ) (v : Attributes) → length s + weight ≤ most → length l ≤ 200
         → Gives i most (a ∷ s) k v → Gives i most s (l ++ k) v
 
-  leaf : (x : ℕ) → isPrimary (codeIn i x) ≡ true → Makes (x ∷ []) (primaryIn i x)
+  leaf : (x : ℕ) → isPrimary (codeIn i x) ≡ true → Makes (x ∷ []) (primaryOf (i .m) (tokenIn i x))
   leaf x f =
       let inside = primary-inside (ended (i .codes) (i .n)) x f in
       record {
@@ -83,7 +77,7 @@ module _ (i : Input) (most : ℕ) (few : i .n ≤ 200) where
         runs = λ s k v h g u. rw (is-operand i x (omega arith) f) (omega arith, u);
       }
 
-  unary : (x : ℕ) (l : List ℕ) (a : Attributes) → Makes l a → Makes (l ++ ((UNARY + x) ∷ [])) (unaryFrom (codeIn i x) a)
+  unary : (x : ℕ) (l : List ℕ) (a : Attributes) → Makes l a → Makes (l ++ ((UNARY + x) ∷ [])) (unaryFrom (tokenIn i x) a)
   unary x l a m =
       let z = length-append l ((UNARY + x) ∷ []) in
       let q : UNARY + x - UNARY ≡ x = omega arith in
@@ -100,7 +94,7 @@ module _ (i : Input) (most : ℕ) (few : i .n ≤ 200) where
       }
 
   binary : (o k′ : ℕ) → k′ < 12 → levelOf (codeIn i o) ≡ suc k′ → (l : List ℕ) (a : Attributes) → Makes l a → (r : List ℕ) (b : Attributes) → Makes r b
-      → Makes (l ++ (r ++ (o ∷ []))) (binaryFrom (codeIn i o) a b)
+      → Makes (l ++ (r ++ (o ∷ []))) (binaryFrom (tokenIn i o) a b)
   binary o k′ h f l a m r b w =
       let inside = level-inside (ended (i .codes) (i .n)) o k′ h f in
       let y = length-append l (r ++ (o ∷ [])) in
@@ -122,7 +116,7 @@ module _ (i : Input) (most : ℕ) (few : i .n ≤ 200) where
 
   choice : (q : ℕ) → codeIn i q ≡ QUESTION → (l : List ℕ) (c : Attributes) → Makes l c → (r : List ℕ) (a : Attributes) → Makes r a
       → (d : List ℕ) (b : Attributes) → Makes d b
-      → Makes (l ++ (r ++ (d ++ (q ∷ FILLER ∷ [])))) (choiceFrom c a b)
+      → Makes (l ++ (r ++ (d ++ (q ∷ FILLER ∷ [])))) (choiceFrom (tokenIn i q) c a b)
   choice q f l c m r a w d b x =
       let inside = code-inside (ended (i .codes) (i .n)) q QUESTION (omega arith) f in
       let y = length-append l (r ++ (d ++ (q ∷ FILLER ∷ []))) in
@@ -198,7 +192,8 @@ module _ (i : Input) (most : ℕ) (few : i .n ≤ 200) where
   extended fuel r k l a j h m =
       both (eqb (levelOf (codeIn i j)) (suc k)) _ _ _ _
       (λ f. onward _ _ _ _ (r .finds (level k) (j + 1) (omega arith))
-      (λ d b q w. r .extends k (l ++ (d ++ (j ∷ []))) (binaryFrom (codeIn i j) a b) q h (binary j k h (eqb-true (levelOf (codeIn i j)) (suc k) f) l a m d b w)))
+      (λ d b q w. r .extends k (l ++ (d ++ (j ∷ []))) (binaryFrom (tokenIn i j) a b) q h
+      (binary j k h (eqb-true (levelOf (codeIn i j)) (suc k) f) l a m d b w)))
       (λ f. gots m)
 
   agree : (fuel : ℕ) → Agree fuel
@@ -208,7 +203,7 @@ module _ (i : Input) (most : ℕ) (few : i .n ≤ 200) where
 
   -- if the descent meets a fault, so does the parser
   pub faulted : (z : ℕ) → Ordered (i .codes) (i .n) (find expression 0) (bad z)
-      → Yields codeOf (meaning (i .e) (i .t)) (tokenIn i) (i .n) (find expression 0) (bad z)
+      → Yields codeOf (meaning (i .m)) (tokenIn i) (i .n) (find expression 0) (bad z)
   faulted z u = record { with-fuel = λ fuel h. same (agree fuel .finds expression 0 tt) (u .with-fuel fuel h) }
     where
       same : {x : Result (List ℕ)} {r : Result Attributes} → Alike x r → x ≡ bad z → r ≡ bad z
@@ -230,11 +225,11 @@ module _ (i : Input) (most : ℕ) (few : i .n ≤ 200) where
         some (gots {l = y} {a} m) q = let w : y ≡ l = cc in (a, gives a (rw w at m))
 
     pub come : Ordered (i .codes) (i .n) (find expression 0) (got l j) → (z : CodedAttributes) →
-        ((v : Attributes) → Gives i most [] l v → denoteAttributes (i .e) (i .t) z ≡ v)
-        → Yields codeOf (meaning (i .e) (i .t)) (tokenIn i) (i .n) (find expression 0) (got (denoteAttributes (i .e) (i .t) z) j)
+        ((v : Attributes) → Gives i most [] l v → denoteAttributes (i .m) z ≡ v)
+        → Yields codeOf (meaning (i .m)) (tokenIn i) (i .n) (find expression 0) (got (denoteAttributes (i .m) z) j)
     come u z f = record { with-fuel = λ fuel h. same (agree fuel .finds expression 0 tt) (u .with-fuel fuel h) }
       where
-        same : {x : Result (List ℕ)} {r : Result Attributes} → Alike x r → x ≡ got l j → r ≡ got (denoteAttributes (i .e) (i .t) z) j
+        same : {x : Result (List ℕ)} {r : Result Attributes} → Alike x r → x ≡ got l j → r ≡ got (denoteAttributes (i .m) z) j
         same bads q = let w : _≡_ {A = ℕ} 0 1 = cc in absurd (omega arith)
         same (gots {l = y} {a} {j = p} m) q =
             let w : y ≡ l = cc in

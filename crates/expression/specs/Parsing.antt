@@ -6,11 +6,12 @@ use mathlib.Core.List.{List}
 use lib.ListN.{length, getD}
 use lib.Dec.{ltb}
 use Rattle.text.specs.Bytes.{pick}
-use Rattle.settings.specs.Table.{wellFormed}
+use Rattle.settings.specs.Table.{ordered}
 use Rattle.token.specs.Tokens.{Token}
 use Rattle.grammar.specs.Grammar.{expression}
 use Rattle.grammar.specs.Parse.{Result, bad, got, find, Yields}
 use Rattle.syntax.specs.Order.{codeAt}
+use Rattle.value.specs.Places.{Memory}
 use Rattle.value.specs.Attributes.{Attributes}
 use Rattle.value.specs.Denote.{denoteAttributes}
 use Rattle.expression.specs.Meaning.{codeOf, meaning}
@@ -21,17 +22,17 @@ use Rattle.expression.specs.declared.Parsed.the-variants.{Bad, Got}
 abbrev pub entryAt : List ℕ → ℕ → ℕ → ℕ
 entryAt xs n i = pick (ltb i n) (getD xs i 0) 0
 
--- token i in the four arrays
+-- token i in the four arrays; past the n tokens one that nothing derives
 abbrev pub tokenAt : (cs ss ls vs : List ℕ) → ℕ → ℕ → Token
 tokenAt cs ss ls vs n i = record { code = codeAt cs n i; start = entryAt ss n i; len = entryAt ls n i; value = entryAt vs n i }
 
-abbrev pub found : (e t : List ℕ) → Parsed → Result Attributes
-found e t (Bad i) = bad (i .0)
-found e t (Got a j) = got (denoteAttributes e t a) (j .0)
+abbrev pub found : Memory → Parsed → Result Attributes
+found m (Bad i) = bad (i .0)
+found m (Got a j) = got (denoteAttributes m a) (j .0)
 
 -- the answer is what the grammar's parser finds from the first token on
-abbrev pub Parses : (e t cs ss ls vs : List ℕ) (n : ℕ) → Parsed → Type 0
-Parses e t cs ss ls vs n r = Yields codeOf (meaning e t) (tokenAt cs ss ls vs n) n (find expression 0) (found e t r)
+abbrev pub Parses : (m : Memory) (cs ss ls vs : List ℕ) (n : ℕ) → Parsed → Type 0
+Parses m cs ss ls vs n r = Yields codeOf (meaning m) (tokenAt cs ss ls vs n) n (find expression 0) (found m r)
 
 -- the arrays have n tokens, at most 200
 pub record Holding (cs ss ls vs : List ℕ) (n : ℕ) : Type 0 where
@@ -41,7 +42,7 @@ pub record Holding (cs ss ls vs : List ℕ) (n : ℕ) : Type 0 where
   pub lens : n ≤ length ls
   pub values : n ≤ length vs
 
--- the precondition: the table is well formed, and the arrays have n tokens
+-- the precondition: the table is ordered, and the arrays have n tokens
 pub record Ready (t cs ss ls vs : List ℕ) (n : ℕ) : Type 0 where
-  pub well-formed : wellFormed t ≡ true
+  pub in-order : ordered t ≡ true
   pub holding : Holding cs ss ls vs n

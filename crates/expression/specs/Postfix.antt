@@ -7,16 +7,17 @@ use lib.Dec.{eqb, leb}
 use Rattle.text.specs.Bytes.{pick}
 use Rattle.codes.specs.Codes.{QUESTION}
 use Rattle.grammar.specs.Grammar.{isPrimary}
+use Rattle.token.specs.Tokens.{Token}
+use Rattle.value.specs.Places.{Memory}
 use Rattle.value.specs.Attributes.{Attributes, primaryOf, unaryFrom, binaryFrom, choiceFrom}
 use Rattle.value.specs.declared.Attributes.{Attributes as CodedAttributes}
 use Rattle.value.specs.Denote.{denoteAttributes}
 use Rattle.syntax.specs.Order.{codeAt, UNARY, FILLER}
 use Rattle.expression.specs.Parsing.{tokenAt, Ready}
 
--- what an order is evaluated over: expression and table, and the first n tokens of the arrays
+-- what an order is evaluated over: a memory, and the first n tokens of the arrays
 pub record Input : Type 0 where
-  pub e : List ℕ
-  pub t : List ℕ
+  pub m : Memory
   pub codes : List ℕ
   pub starts : List ℕ
   pub lens : List ℕ
@@ -26,9 +27,8 @@ pub record Input : Type 0 where
 abbrev pub codeIn : Input → ℕ → ℕ
 codeIn i x = codeAt (i .codes) (i .n) x
 
--- the attributes of the operand at a token
-abbrev pub primaryIn : Input → ℕ → Attributes
-primaryIn i x = primaryOf (i .e) (i .t) (tokenAt (i .codes) (i .starts) (i .lens) (i .values) (i .n) x)
+abbrev pub tokenIn : Input → ℕ → Token
+tokenIn i x = tokenAt (i .codes) (i .starts) (i .lens) (i .values) (i .n) x
 
 -- the sorts of entries
 pub data Entry : Type 0 where
@@ -46,14 +46,14 @@ entryOf i x =
     (pick (eqb (codeIn i x) QUESTION) choice binary)))
 
 -- the operands of an operator on top of the stack, and a statement `go` on the stack with its result in their place
-pub record OnOne (o : ℕ) (s : List Attributes) (go : List Attributes → Type 0) : Type 0 where
+pub record OnOne (o : Token) (s : List Attributes) (go : List Attributes → Type 0) : Type 0 where
   pub a : Attributes
   pub rest : List Attributes
   pub shape : s ≡ a ∷ rest
   pub few : a .count ≤ 200
   pub next : go (unaryFrom o a ∷ rest)
 
-pub record OnTwo (o : ℕ) (s : List Attributes) (go : List Attributes → Type 0) : Type 0 where
+pub record OnTwo (o : Token) (s : List Attributes) (go : List Attributes → Type 0) : Type 0 where
   pub a : Attributes
   pub b : Attributes
   pub rest : List Attributes
@@ -61,23 +61,23 @@ pub record OnTwo (o : ℕ) (s : List Attributes) (go : List Attributes → Type 
   pub few : a .count + b .count ≤ 400
   pub next : go (binaryFrom o a b ∷ rest)
 
-pub record OnThree (s : List Attributes) (go : List Attributes → Type 0) : Type 0 where
+pub record OnThree (o : Token) (s : List Attributes) (go : List Attributes → Type 0) : Type 0 where
   pub c : Attributes
   pub a : Attributes
   pub b : Attributes
   pub rest : List Attributes
   pub shape : s ≡ b ∷ a ∷ c ∷ rest
   pub few : c .count + a .count + b .count ≤ 600
-  pub next : go (choiceFrom c a b ∷ rest)
+  pub next : go (choiceFrom o c a b ∷ rest)
 
 -- with room for `most` operands
 module _ (i : Input) (most : ℕ) where
   -- the step of an entry x from the stack s
   abbrev pub Does : Entry → (x : ℕ) (s : List Attributes) → (List Attributes → Type 0) → Type 0
-  Does operand x s go = (length s < most) × go (primaryIn i x ∷ s)
-  Does unary x s go = OnOne (codeIn i (x - UNARY)) s go
-  Does binary x s go = OnTwo (codeIn i x) s go
-  Does choice x s go = OnThree s go
+  Does operand x s go = (length s < most) × go (primaryOf (i .m) (tokenIn i x) ∷ s)
+  Does unary x s go = OnOne (tokenIn i (x - UNARY)) s go
+  Does binary x s go = OnTwo (tokenIn i x) s go
+  Does choice x s go = OnThree (tokenIn i x) s go
   Does filler x s go = go s
 
   -- from the stack s, the entries leave only v
@@ -87,7 +87,7 @@ module _ (i : Input) (most : ℕ) where
 
   -- the precondition on the first m entries of an order
   pub record Foldable (o : List ℕ) (m : ℕ) : Type 0 where
-    pub ready : Ready (i .t) (i .codes) (i .starts) (i .lens) (i .values) (i .n)
+    pub ready : Ready (i .m .table) (i .codes) (i .starts) (i .lens) (i .values) (i .n)
     pub all : m ≤ 200
     pub long : length o ≡ 200
     pub value : Attributes
@@ -95,4 +95,4 @@ module _ (i : Input) (most : ℕ) where
 
   -- the answer is what they leave
   abbrev pub Folds : (o : List ℕ) (m : ℕ) → CodedAttributes → Type 0
-  Folds o m z = (v : Attributes) → Gives [] (take m o) v → denoteAttributes (i .e) (i .t) z ≡ v
+  Folds o m z = (v : Attributes) → Gives [] (take m o) v → denoteAttributes (i .m) z ≡ v

@@ -7,6 +7,7 @@ use value::Attributes;
 use value::forms;
 ghost use mathlib.Core.Path.{_≡_};
 ghost use lib.ListN.{length};
+ghost use Rattle.value.specs.Places.{over};
 ghost use Rattle.expression.specs.Postfix.{Foldable, Folds};
 
 // An entry as a number.
@@ -18,7 +19,7 @@ fn entry_number(x: u16) -> usize
 
 // The attributes that the entries of an order leave. The operands that wait for their operator are in lent memory.
 pub fn fold<'a>(
-    waiting: &mut [[usize; 7]],
+    waiting: &mut [[usize; 6]],
     expr: &'a [u8],
     table: &'a [u8],
     codes: &'a [u8; 200],
@@ -29,8 +30,8 @@ pub fn fold<'a>(
     order: &'a [u16; 200],
     filled: usize,
 ) -> Attributes
-    requires { ⌜ Foldable (record { e = now expr; t = now table; codes = now codes; starts = now starts; lens = now lens; values = now values; n = n .0 }) (length (now waiting)) (now order) filled ⌝ }
-    ensures { λ r. ⌜ Folds (record { e = now (expr .entry); t = now (table .entry); codes = now (codes .entry); starts = now (starts .entry); lens = now (lens .entry); values = now (values .entry); n = n .0 }) (length (now (waiting .entry))) (now (order .entry)) filled r ⌝ }
+    requires { ⌜ Foldable (record { m = over (now expr) (now table); codes = now codes; starts = now starts; lens = now lens; values = now values; n = n .0 }) (length (now waiting)) (now order) filled ⌝ }
+    ensures { λ r. ⌜ Folds (record { m = over (now (expr .entry)) (now (table .entry)); codes = now (codes .entry); starts = now (starts .entry); lens = now (lens .entry); values = now (values .entry); n = n .0 }) (length (now (waiting .entry))) (now (order .entry)) filled r ⌝ }
 {
     let mut top: usize = 0;
     let mut p: usize = 0;
@@ -39,20 +40,27 @@ pub fn fold<'a>(
         let x = entry_number(e);
         p += 1;
         if tokens::UNARY <= x {
-            let o = tokens::code_at(codes, n, TokenNumber(x - tokens::UNARY));
-            stack::unary(waiting, top - 1, o);
+            let k = arrays::token_at(
+                codes,
+                starts,
+                lens,
+                values,
+                n,
+                TokenNumber(x - tokens::UNARY),
+            );
+            stack::unary(waiting, top - 1, k);
         } else {
-            let o = tokens::code_at(codes, n, TokenNumber(x));
-            if tokens::is_primary(o) {
-                let k = arrays::token_at(codes, starts, lens, values, n, TokenNumber(x));
+            let k = arrays::token_at(codes, starts, lens, values, n, TokenNumber(x));
+            let code = k.code;
+            if tokens::is_primary(code) {
                 stack::store(waiting, top, forms::of_primary(expr, table, k));
                 top += 1;
             } else if e != tokens::FILLER {
-                if o == codes::QUESTION {
-                    stack::choice(waiting, top - 3);
+                if code == codes::QUESTION {
+                    stack::choice(waiting, top - 3, k);
                     top -= 2;
                 } else {
-                    stack::binary(waiting, top - 2, expr, table, o);
+                    stack::binary(waiting, top - 2, expr, table, k);
                     top -= 1;
                 }
             }

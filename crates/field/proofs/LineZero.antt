@@ -4,7 +4,9 @@ use mathlib.Core.Path.{_≡_, refl}
 use mathlib.Core.List.{List}
 use lib.ListN.{length}
 use lib.Dec.{leb}
+use Rattle.units.specs.declared.Dialect.{Dialect}
 use Rattle.text.proofs.Laws.{pick-case}
+use Rattle.value.specs.Places.{Memory}
 use Rattle.evaluation.specs.Evaluation.{Evaluation, value, refused, lineOf as lineOfEvaluation, evaluation}
 use Rattle.answers.proofs.LineZero.{without-line as expression-without-line}
 use Rattle.datum.specs.Encoding.{Encoding, unfit, bytes, Field, fitted}
@@ -22,6 +24,6 @@ written-so : (x : Evaluation) → lineOfEvaluation x ≡ 0 → (d : ℕ) (b : Li
 written-so (refused r) h d b = h
 written-so (value v n) h d b = fitted-so (encoding d v) b
 
-pub without-line : (e t : List ℕ) (datum : ℕ) (buffer : List ℕ) → lineOf (fieldOf e t datum buffer .answer) ≡ 0
+pub without-line : (m : Memory) (datum : ℕ) (buffer : List ℕ) (δ : Dialect) → lineOf (fieldOf m datum buffer δ .answer) ≡ 0
 unfolding fieldOf
-without-line e t d b = written-so (evaluation e t) (expression-without-line e t) d b
+without-line m d b δ = written-so (evaluation m δ) (expression-without-line m δ) d b

@@ -2,7 +2,10 @@
 -- and the buffer. The answer is a length; the count of operators is no part of it.
 use Prim.Native.Nat.{ℕ}
 use mathlib.Core.List.{List}
-use Rattle.value.specs.Values.{Value, number, string, wide, fault}
+use Rattle.units.specs.declared.Dialect.{Dialect}
+use Rattle.lookup.specs.declared.TextKind.the-variants.{String, Wide}
+use Rattle.value.specs.Places.{Memory}
+use Rattle.value.specs.Values.{Value, number, text, fault}
 use Rattle.evaluation.specs.Evaluation.{Evaluation, value, refused, evaluation}
 use Rattle.datum.specs.Encoding.{Encoding, unfit, terminated, widened, numberField, stringField, Field, fitted}
 use Rattle.datum.specs.declared.Written.{Written}
@@ -11,8 +14,8 @@ use Rattle.datum.specs.declared.Written.the-variants.{Length, Refused}
 -- the bytes of a value in a datum, by its kind (the value of an answer is never a fault)
 abbrev pub encoding : (datum : ℕ) → Value → Encoding
 encoding d (number x) = numberField d x
-encoding d (string p s) = stringField d (terminated s)
-encoding d (wide p s) = stringField d (widened s)
+encoding d (text String p s) = stringField d (terminated s)
+encoding d (text Wide p s) = stringField d (widened s)
 encoding d (fault r) = unfit r
 
 -- the refusal of the expression, which leaves the buffer as it was, or the bytes of its value at the front of the buffer
@@ -20,9 +23,9 @@ abbrev pub written : Evaluation → (datum : ℕ) → (buffer : List ℕ) → Fi
 written (refused r) d b = record { answer = Refused r; buffer = b }
 written (value v n) d b = fitted (encoding d v) b
 
--- the field of an expression e over a table t
-unfoldable pub fieldOf : (e t : List ℕ) → (datum : ℕ) → (buffer : List ℕ) → Field
-fieldOf e t d b = written (evaluation e t) d b
+-- the field of an expression over a table, in a dialect δ
+unfoldable pub fieldOf : Memory → (datum : ℕ) → (buffer : List ℕ) → Dialect → Field
+fieldOf m d b δ = written (evaluation m δ) d b
 
 -- the line of an answer, 0 if there is no refusal
 abbrev pub lineOf : Written → ℕ

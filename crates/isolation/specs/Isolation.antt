@@ -6,6 +6,7 @@ use mathlib.Core.Path.{_≡_}
 use mathlib.Core.Bool.{true}
 use mathlib.Core.List.{List, []}
 use lib.ListN.{length, getD, take, drop}
+use Rattle.units.specs.declared.Dialect.{Dialect}
 use Rattle.text.specs.Runs.{span}
 use Rattle.text.specs.declared.runs.Set.the-variants.{Blanks}
 use Rattle.settings.specs.Table.{wellFormed}
@@ -20,27 +21,27 @@ use Rattle.condition.specs.declared.macros.Named.{Named}
 use Rattle.select.specs.Select.{MAX-FILE}
 
 -- the macro's name in a text that begins with blanks
-abbrev pub macroIn : List ℕ → List ℕ
-macroIn s =
+abbrev pub macroIn : List ℕ → Dialect → List ℕ
+macroIn s δ =
     let m : List ℕ = drop (span Blanks s) s in
-    let n : Named = nameAt m in
+    let n : Named = nameAt m δ in
     take (n .len) (drop (n .start .0) m)
 
 -- A directive that is read, with the text s, names n: a condition names all its macros and PCDs, those of skipped operands too; an `!ifdef`
 -- or `!ifndef` names its one macro.
-abbrev pub Mentions : Directive → (s n : List ℕ) → Type 0
-Mentions If s n = Names s n
-Mentions Elseif s n = Names s n
-Mentions Ifdef s n = n ≡ macroIn s
-Mentions Ifndef s n = n ≡ macroIn s
-Mentions Else s n = ⊥
-Mentions Endif s n = ⊥
-Mentions Plain s n = ⊥
-Mentions Unknown s n = ⊥
+abbrev pub Mentions : Directive → (s n : List ℕ) → Dialect → Type 0
+Mentions If s n δ = Names s n δ
+Mentions Elseif s n δ = Names s n δ
+Mentions Ifdef s n δ = n ≡ macroIn s δ
+Mentions Ifndef s n δ = n ≡ macroIn s δ
+Mentions Else s n δ = ⊥
+Mentions Endif s n δ = ⊥
+Mentions Plain s n δ = ⊥
+Mentions Unknown s n δ = ⊥
 
 -- the tables have the same record under each name that the directive names, byte for byte, or both have none
-abbrev pub SameRecords : (t₁ t₂ : List ℕ) → Directive → List ℕ → Type 0
-SameRecords t₁ t₂ d s = (n : List ℕ) → Mentions d s n → recordUnder t₁ n ≡ recordUnder t₂ n
+abbrev pub SameRecords : (t₁ t₂ : List ℕ) → Directive → List ℕ → Dialect → Type 0
+SameRecords t₁ t₂ d s δ = (n : List ℕ) → Mentions d s n δ → recordUnder t₁ n ≡ recordUnder t₂ n
 
 -- A directive that is read has mark 3, 4 or 5, and any other line a lower one. blocks/specs/Reading.antt defines which directives are read,
 -- by the structure of the file; `marks-show-reading` of the page of theorems is that the marks show exactly these.
@@ -50,15 +51,15 @@ Read m = 3 ≤ m
 -- Line l₂ of the second file agrees with line l₁ of the same number, which has the mark m in the first selection. Both are plain, or both
 -- have the same word, where `elif` and `elseif` are one. If the directive was read, the lines have the same bytes, and the tables have the
 -- same records under the names in it.
-pub record Agrees (t₁ t₂ : List ℕ) (m : ℕ) (l₁ l₂ : List ℕ) : Type 0 where
+pub record Agrees (t₁ t₂ : List ℕ) (m : ℕ) (l₁ l₂ : List ℕ) (δ : Dialect) : Type 0 where
   pub word : directiveOf l₂ ≡ directiveOf l₁
   pub bytes : Read m → l₂ ≡ l₁
-  pub records : Read m → SameRecords t₁ t₂ (directiveOf l₁) (textOf l₁)
+  pub records : Read m → SameRecords t₁ t₂ (directiveOf l₁) (textOf l₁) δ
 
 -- The second file and table, with this many marks, are comparable with the first ones, whose selection has the marks ms.
-pub record Comparable (f₁ t₁ : List ℕ) (ms : List ℕ) (f₂ t₂ : List ℕ) (room : ℕ) : Type 0 where
+pub record Comparable (f₁ t₁ : List ℕ) (ms : List ℕ) (f₂ t₂ : List ℕ) (room : ℕ) (δ : Dialect) : Type 0 where
   pub as-many : length (lines f₂) ≡ length (lines f₁)
-  pub agrees : (i : ℕ) → i < length (lines f₁) → Agrees t₁ t₂ (getD ms i 0) (getD (lines f₁) i []) (getD (lines f₂) i [])
+  pub agrees : (i : ℕ) → i < length (lines f₁) → Agrees t₁ t₂ (getD ms i 0) (getD (lines f₁) i []) (getD (lines f₂) i []) δ
   pub well-formed : wellFormed t₂ ≡ true
   pub small : length f₂ ≤ MAX-FILE
   pub short : (i : ℕ) → i < length (lines f₂) → length (getD (lines f₂) i []) ≤ 1024

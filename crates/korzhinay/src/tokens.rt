@@ -1,4 +1,5 @@
 // The tokens of an expression.
+ghost use Rattle.units.specs.Dialects.{STRICT};
 ghost use Rattle.token.specs.Tokens.{reading};
 ghost use Rattle.marshal.specs.Calls.{Lists};
 
@@ -12,7 +13,7 @@ pub extern "C" fn korzhinay_tokens(
     lens: &mut [u16; 200],
     values: &mut [u64; 200],
 )
-    ensures { λ r. ⌜ Lists (reading (now (expr .entry))) (now (out .entry)) (now (codes .entry)) (now (starts .entry)) (now (lens .entry)) (now (values .entry)) (now (out .exit)) (now (codes .exit)) (now (starts .exit)) (now (lens .exit)) (now (values .exit)) ⌝ }
+    ensures { λ r. ⌜ Lists (reading (now (expr .entry)) STRICT) (now (out .entry)) (now (codes .entry)) (now (starts .entry)) (now (lens .entry)) (now (values .entry)) (now (out .exit)) (now (codes .exit)) (now (starts .exit)) (now (lens .exit)) (now (values .exit)) ⌝ }
 {
     marshal::tokens::list(expr, out, codes, starts, lens, values)
 }

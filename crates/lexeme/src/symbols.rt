@@ -2,12 +2,13 @@
 use codes::Scanned;
 use codes::found;
 use text::bytes;
+use units::Dialect;
 use units::Offset;
 ghost use mathlib.Core.Path.{_≡_};
 ghost use lib.Dec.{eqb};
 ghost use Rattle.text.specs.Bytes.{pick};
-ghost use Rattle.codes.specs.Spellings.{symbols, found as foundOf};
-ghost use Rattle.lexeme.specs.Lexeme.{leading};
+ghost use Rattle.codes.specs.Spellings.{found as foundOf};
+ghost use Rattle.lexeme.specs.Lexeme.{symbolOf};
 
 // The symbol of two bytes if the second byte is this one, else the symbol of one byte.
 fn either(b: u8, second: u8, long: u8, short: u8) -> Scanned
@@ -21,8 +22,8 @@ fn either(b: u8, second: u8, long: u8, short: u8) -> Scanned
 }
 
 // The symbol at the front of a text.
-pub fn symbol(s: &[u8]) -> Scanned
-    ensures { λ r. ⌜ r ≡ leading symbols (now (s .entry)) ⌝ }
+pub fn symbol(s: &[u8], dialect: Dialect) -> Scanned
+    ensures { λ r. ⌜ r ≡ symbolOf (now (s .entry)) dialect ⌝ }
 {
     let a = bytes::byte_at(s, Offset(0));
     let b = bytes::byte_at(s, Offset(1));

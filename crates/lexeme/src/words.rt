@@ -7,6 +7,7 @@ use text::names;
 use text::order;
 use text::runs;
 use text::runs::Set;
+use units::Dialect;
 use units::Offset;
 ghost use mathlib.Core.Path.{_≡_};
 ghost use lib.ListN.{length};
@@ -99,8 +100,8 @@ fn is_wide(n: usize, s: &[u8]) -> bool
 }
 
 // The token of the run at the front, which starts with a letter or `_`.
-pub fn word(s: &[u8]) -> Scanned
-    ensures { λ r. ⌜ r ≡ wordOf (span Word (now (s .entry))) (now (s .entry)) ⌝ }
+pub fn word(s: &[u8], dialect: Dialect) -> Scanned
+    ensures { λ r. ⌜ r ≡ wordOf (span Word (now (s .entry))) (now (s .entry)) dialect ⌝ }
 {
     let pcd = names::pcd_name(s);
     if 0 < pcd {

@@ -11,20 +11,38 @@ ghost use Rattle.text.specs.Order.{equal};
 ghost use Rattle.text.specs.Runs.{span};
 ghost use Rattle.text.specs.declared.runs.Set.the-variants.{NonZero};
 ghost use Rattle.settings.specs.Table.{unpadded};
-ghost use Rattle.lookup.specs.Setting.{littleEndian, settingAt, LooksUp};
+ghost use Rattle.lookup.specs.Setting.{littleEndian, clipped, valueAt, LooksUp};
 
-// The place of a string in the table.
-pub struct Part {
+// The memory that a string is in.
+pub enum Home {
+    Expression,
+    Table,
+}
+
+// The place of a string: a part of its home.
+pub struct Place {
+    pub home: Home,
     pub start: Offset,
     pub len: usize,
 }
 
-// The setting under a name.
-pub enum Setting {
+// The kinds of strings.
+pub enum TextKind {
+    String,
+    Wide,
+}
+
+// A value, or the number of the refusal that evaluation met first.
+pub enum Value {
     Number(u64),
-    String(Part),
-    Wide(Part),
-    Missing,
+    Text(TextKind, Place),
+    Fault(u8),
+}
+
+// Whether a name is set, and its value: the number 0 if it is not.
+pub struct Setting {
+    pub found: bool,
+    pub value: Value,
 }
 
 // Whether a record's name field has this name, which has no zero byte.
@@ -59,23 +77,34 @@ fn number_in(r: &[u8]) -> u64
         + 256 * (as_u64(r[73]) + 256 * (as_u64(r[74]) + 256 * (as_u64(r[75]) + 256 * high)))
 }
 
-// The setting of a record that begins at `at` in the table.
-fn setting_at(at: Offset, r: &[u8]) -> Setting
+// The length of the content of a record, by its byte 65. In a plain record that is at most 56.
+fn content_length(b: u8) -> usize
+    ensures { λ r. ⌜ r ≡ clipped b ⌝ }
+{
+    let n = settings::as_index(b);
+    if n <= 56 { n } else { 56 }
+}
+
+// The value of a record that begins at `at` in the table. A plain record has one of the three kinds.
+fn value_at(at: Offset, r: &[u8]) -> Value
     requires { ⌜ (length (now r) ≡ 128) × (at .0 + 72 < 2 ^ 64) ⌝ }
-    ensures { λ s. ⌜ s ≡ settingAt (at .0) (now (r .entry)) ⌝ }
+    ensures { λ v. ⌜ v ≡ valueAt (at .0) (now (r .entry)) ⌝ }
 {
     let kind = r[64];
-    let len = settings::as_index(r[65]);
-    if 56 < len {
-        return Setting::Missing;
+    // most settings are numbers
+    if kind == 0 {
+        return Value::Number(number_in(r));
     }
     let from = at.0;
-    let start = Offset(from + 72);
+    let place = Place {
+        home: Home::Table,
+        start: Offset(from + 72),
+        len: content_length(r[65]),
+    };
     match kind {
-        0 => Setting::Number(number_in(r)),
-        1 => Setting::String(Part { start, len }),
-        2 => Setting::Wide(Part { start, len }),
-        _ => Setting::Missing,
+        1 => Value::Text(TextKind::String, place),
+        2 => Value::Text(TextKind::Wide, place),
+        _ => Value::Number(0),
     }
 }
 
@@ -84,16 +113,25 @@ pub fn lookup(table: &[u8], name: &[u8]) -> Setting
     ensures { λ r. ⌜ LooksUp (now (table .entry)) (now (name .entry)) r ⌝ }
 {
     if runs::run_end(name, Offset(0), Set::NonZero).0 != name.len() {
-        return Setting::Missing;
+        return Setting {
+            found: false,
+            value: Value::Number(0),
+        };
     }
     let mut at = 0;
     while 128 <= table.len() - at {
         let field = at + 64;
         let next = at + 128;
         if has_name(&table[at..field], name) {
-            return setting_at(Offset(at), &table[at..next]);
+            return Setting {
+                found: true,
+                value: value_at(Offset(at), &table[at..next]),
+            };
         }
         at = next;
     }
-    Setting::Missing
+    Setting {
+        found: false,
+        value: Value::Number(0),
+    }
 }

@@ -4,12 +4,18 @@ use mathlib.Core.Path.{_≡_}
 use mathlib.Core.List.{List, [], _∷_}
 use lib.ListN.{length}
 use Rattle.units.specs.Refusals.{TABLE-MALFORMED}
+use Rattle.units.specs.Dialects.{STRICT}
 use Rattle.text.specs.Bytes.{pick}
 use Rattle.text.specs.Parts.{stored}
 use Rattle.settings.specs.Table.{wellFormed}
 use Rattle.lookup.specs.Setting.{settingUnder}
+use Rattle.lookup.specs.declared.Home.{Home}
+use Rattle.lookup.specs.declared.Home.the-variants.{Expression, Table}
+use Rattle.lookup.specs.declared.Value.{Value}
+use Rattle.lookup.specs.declared.Value.the-variants.{Number, Text, Fault}
 use Rattle.lookup.specs.declared.Setting.{Setting}
-use Rattle.lookup.specs.declared.Setting.the-variants.{Number, String, Wide, Missing}
+use Rattle.value.specs.Places.{over}
+use Rattle.value.specs.Kinds.{kindNumber, ofText}
 use Rattle.token.specs.Tokens.{Reading, Stored}
 use Rattle.token.specs.declared.scan.Ending.{Ending}
 use Rattle.token.specs.declared.scan.Ending.the-variants.{Complete, Refused}
@@ -20,12 +26,14 @@ use Rattle.datum.specs.declared.Written.{Written}
 use Rattle.datum.specs.declared.Written.the-variants.{Length, Refused as Unwritten}
 use Rattle.field.specs.Fields.{fieldOf}
 
--- a setting as three numbers: its kind, its number or the start of its string, and the string's length
+-- a setting as three numbers: its kind, its number or the start of its string, and the string's length (its value is never a fault)
+abbrev pub valueShown : Value → List ℕ
+valueShown (Number x) = 0 ∷ x ∷ 0 ∷ []
+valueShown (Text k p) = kindNumber (ofText k) ∷ p .start .0 ∷ p .len ∷ []
+valueShown (Fault r) = 255 ∷ 0 ∷ 0 ∷ []
+
 abbrev pub settingShown : Setting → List ℕ
-settingShown (Number v) = 0 ∷ v ∷ 0 ∷ []
-settingShown (String p) = 1 ∷ p .start .0 ∷ p .len ∷ []
-settingShown (Wide p) = 2 ∷ p .start .0 ∷ p .len ∷ []
-settingShown Missing = 255 ∷ 0 ∷ 0 ∷ []
+settingShown s = pick (s .found) (valueShown (s .value)) (255 ∷ 0 ∷ 0 ∷ [])
 
 -- a lookup: 0 and the setting under the name; or 1 for a malformed table, and the array keeps its entries
 pub record Shows (t n out : List ℕ) (r : ℕ) (out′ : List ℕ) : Type 0 where
@@ -42,16 +50,21 @@ pub record Lists (read : Reading) (out codes starts lens values out′ codes′ 
   pub head : out′ ≡ stored (endingNumber (read .ending) ∷ length (read .tokens) ∷ []) out
   pub tokens : Stored read codes starts lens values codes′ starts′ lens′ values′
 
+-- the home of a string as a number
+abbrev pub homeNumber : Home → ℕ
+homeNumber Expression = 0
+homeNumber Table = 1
+
 -- The answer to an expression as six numbers: the kind, the number, the count of operators, and the place of a string: 1 for the table and
 -- 0 for the expression, its start, its length. The line of the answer is always 0 and is not among them.
 abbrev pub answerShown : Evaluation → List ℕ
 answerShown a =
-    kindNumberOf a ∷ numberOf a ∷ countOf a ∷ pick (placeOf a .tabled) 1 0 ∷ placeOf a .start .0 ∷ placeOf a .len ∷ []
+    kindNumberOf a ∷ numberOf a ∷ countOf a ∷ homeNumber (placeOf a .home) ∷ placeOf a .start .0 ∷ placeOf a .len ∷ []
 
 -- the answer to an expression e over a table t: the number of the refusal, 0 with a value, and the array
 pub record Answers (e t out : List ℕ) (r : ℕ) (out′ : List ℕ) : Type 0 where
-  pub refused-with : r ≡ refusalNumber (evaluation e t)
-  pub written : out′ ≡ stored (answerShown (evaluation e t)) out
+  pub refused-with : r ≡ refusalNumber (evaluation (over e t) STRICT)
+  pub written : out′ ≡ stored (answerShown (evaluation (over e t) STRICT)) out
 
 -- the number of the refusal, 0 if the field was written
 abbrev pub writtenNumber : Written → ℕ
@@ -65,9 +78,9 @@ writtenLength (Unwritten r) = 0
 
 -- the field of an expression e over a table t: the number, the length, and the buffer
 pub record Fills (e t : List ℕ) (datum : ℕ) (buffer : List ℕ) (r written : ℕ) (buffer′ : List ℕ) : Type 0 where
-  pub refused-with : r ≡ writtenNumber (fieldOf e t datum buffer .answer)
-  pub length-is : written ≡ writtenLength (fieldOf e t datum buffer .answer)
-  pub buffer-is : buffer′ ≡ fieldOf e t datum buffer .buffer
+  pub refused-with : r ≡ writtenNumber (fieldOf (over e t) datum buffer STRICT .answer)
+  pub length-is : written ≡ writtenLength (fieldOf (over e t) datum buffer STRICT .answer)
+  pub buffer-is : buffer′ ≡ fieldOf (over e t) datum buffer STRICT .buffer
 
 -- the answer of a selection as three numbers: the line of a refusal, the number of lines, the sum of counts
 abbrev pub selectionShown : Answer → List ℕ
@@ -75,6 +88,6 @@ selectionShown a = lineOf a ∷ numberOfLines a ∷ selectionCount a ∷ []
 
 -- the selection of a file f over a table t
 pub record Marks (f t marks out : List ℕ) (r : ℕ) (marks′ out′ : List ℕ) : Type 0 where
-  pub refused-with : r ≡ selectionNumber (answerOf (selection f t (length marks)))
-  pub shown : out′ ≡ stored (selectionShown (answerOf (selection f t (length marks)))) out
-  pub marks-are : marks′ ≡ marksOf marks (selection f t (length marks))
+  pub refused-with : r ≡ selectionNumber (answerOf (selection f t (length marks) STRICT))
+  pub shown : out′ ≡ stored (selectionShown (answerOf (selection f t (length marks) STRICT))) out
+  pub marks-are : marks′ ≡ marksOf marks (selection f t (length marks) STRICT)

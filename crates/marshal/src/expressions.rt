@@ -2,20 +2,23 @@
 use evaluation::Answer;
 use evaluation::AnswerValue;
 use evaluation::outcome;
-use value::Place;
+use lookup::Home;
+use lookup::Place;
+use units::Dialect;
 ghost use mathlib.Core.Path.{_≡_};
-ghost use mathlib.Core.List.{List, [], _∷_};
-ghost use Prim.Native.Nat.{ℕ};
-ghost use Rattle.text.specs.Bytes.{pick};
+ghost use mathlib.Core.List.{[], _∷_};
+ghost use Rattle.value.specs.Places.{Memory};
 ghost use Rattle.text.specs.Parts.{stored};
 ghost use Rattle.evaluation.specs.Evaluation.{value as valued, denoteAnswerValue};
-ghost use Rattle.marshal.specs.Calls.{answerShown, Answers};
+ghost use Rattle.marshal.specs.Calls.{homeNumber, answerShown, Answers};
 
-// A flag as a number.
-fn one_if(flag: bool) -> u64
-    ensures { λ r. ⌜ r ≡ pick flag 1 0 ⌝ }
+fn number_of(home: Home) -> u64
+    ensures { λ r. ⌜ r ≡ homeNumber home ⌝ }
 {
-    if flag { 1 } else { 0 }
+    match home {
+        Home::Expression => 0,
+        Home::Table => 1,
+    }
 }
 
 // Stores a number with its count of operators; for a refusal all are 0.
@@ -32,21 +35,22 @@ fn show_number(out: &mut [u64; 6], x: u64, count: u64)
 
 // Stores the place of a string.
 fn show_string(out: &mut [u64; 6], kind: u64, place: Place, count: u64)
-    ensures { λ r. ⌜ now (out .exit) ≡ stored (kind ∷ 0 ∷ count ∷ pick (place .tabled) 1 0 ∷ place .start .0 ∷ place .len ∷ []) (now (out .entry)) ⌝ }
+    ensures { λ r. ⌜ now (out .exit) ≡ stored (kind ∷ 0 ∷ count ∷ homeNumber (place .home) ∷ place .start .0 ∷ place .len ∷ []) (now (out .entry)) ⌝ }
 {
     let from = place.start;
-    let tabled = one_if(place.tabled);
+    let home = place.home;
+    let number = number_of(home);
     out[0] = kind;
     out[1] = 0;
     out[2] = count;
-    out[3] = tabled;
+    out[3] = number;
     out[4] = from.0 as u64;
     out[5] = place.len as u64;
 }
 
 // Stores a value.
 fn show_value(out: &mut [u64; 6], v: AnswerValue, count: usize)
-    ensures { λ r. ⌜ ((e t : List ℕ) → now (out .exit) ≡ stored (answerShown (valued (denoteAnswerValue e t v) count)) (now (out .entry))) ⌝ }
+    ensures { λ r. ⌜ ((m : Memory) → now (out .exit) ≡ stored (answerShown (valued (denoteAnswerValue m v) count)) (now (out .entry))) ⌝ }
 {
     let n = count as u64;
     match v {
@@ -60,7 +64,7 @@ fn show_value(out: &mut [u64; 6], v: AnswerValue, count: usize)
 pub fn answer<'a>(expr: &'a [u8], table: &'a [u8], out: &mut [u64; 6]) -> u8
     ensures { λ r. ⌜ Answers (now (expr .entry)) (now (table .entry)) (now (out .entry)) r (now (out .exit)) ⌝ }
 {
-    match outcome::evaluate(expr, table) {
+    match outcome::evaluate(expr, table, Dialect { bars: false }) {
         Answer::Refused(r) => {
             show_number(out, 0, 0);
             r.number

@@ -1,5 +1,6 @@
 // The call on data fields.
 use datum::Written;
+use units::Dialect;
 ghost use Rattle.marshal.specs.Calls.{Fills};
 
 // The bytes of a data field: 0, the length of the field in `written`, and the field at the front of `buffer`; or the refusal number, a
@@ -13,7 +14,7 @@ pub fn fill<'a>(
 ) -> u8
     ensures { λ r. ⌜ Fills (now (expr .entry)) (now (table .entry)) datum (now (buffer .entry)) r (now (written .exit)) (now (buffer .exit)) ⌝ }
 {
-    match field::field(buffer, expr, table, datum) {
+    match field::field(buffer, expr, table, datum, Dialect { bars: false }) {
         Written::Length(n) => {
             *written = n as u64;
             0

@@ -1,13 +1,16 @@
 // The calls on a table of settings.
-use lookup::Setting;
+use crate::numbers;
+use lookup::TextKind;
+use lookup::Value;
 ghost use mathlib.Core.Path.{_≡_};
 ghost use mathlib.Core.Bool.{true};
 ghost use Rattle.units.specs.Refusals.{TABLE-MALFORMED};
 ghost use Rattle.text.specs.Bytes.{pick};
-ghost use Rattle.settings.specs.Table.{wellFormed};
-ghost use Rattle.lookup.specs.Setting.{settingUnder};
 ghost use Rattle.text.specs.Parts.{stored};
-ghost use Rattle.marshal.specs.Calls.{settingShown, Shows};
+ghost use Rattle.settings.specs.Table.{ordered, wellFormed};
+ghost use Rattle.lookup.specs.Setting.{settingUnder};
+ghost use Rattle.value.specs.Kinds.{kindNumber, ofText};
+ghost use Rattle.marshal.specs.Calls.{valueShown, settingShown, Shows};
 
 // 0 if the table is well formed, else 1.
 pub fn check(table: &[u8]) -> u8
@@ -20,34 +23,40 @@ pub fn check(table: &[u8]) -> u8
     }
 }
 
-// Stores the setting under a name: its kind, its number or the start of its string, and the length of the string.
+fn number_of(k: TextKind) -> u64
+    ensures { λ r. ⌜ r ≡ kindNumber (ofText k) ⌝ }
+{
+    match k {
+        TextKind::String => 1,
+        TextKind::Wide => 2,
+    }
+}
+
+// Stores a value: its kind, its number or the start of its string, and the length of the string.
+fn show_value(out: &mut [u64; 3], v: Value)
+    ensures { λ r. ⌜ now (out .exit) ≡ stored (valueShown v) (now (out .entry)) ⌝ }
+{
+    match v {
+        Value::Number(x) => numbers::store(out, 0, x, 0),
+        Value::Text(k, p) => {
+            let from = p.start;
+            numbers::store(out, number_of(k), from.0 as u64, p.len as u64)
+        }
+        Value::Fault(_) => numbers::store(out, 255, 0, 0),
+    }
+}
+
+// Stores the setting under a name.
 fn show(table: &[u8], name: &[u8], out: &mut [u64; 3])
-    requires { ⌜ wellFormed (now table) ≡ true ⌝ }
+    requires { ⌜ ordered (now table) ≡ true ⌝ }
     ensures { λ r. ⌜ now (out .exit) ≡ stored (settingShown (settingUnder (now (table .entry)) (now (name .entry)))) (now (out .entry)) ⌝ }
 {
-    match lookup::lookup(table, name) {
-        Setting::Number(value) => {
-            out[0] = 0;
-            out[1] = value;
-            out[2] = 0;
-        }
-        Setting::String(part) => {
-            let from = part.start;
-            out[0] = 1;
-            out[1] = from.0 as u64;
-            out[2] = part.len as u64;
-        }
-        Setting::Wide(part) => {
-            let from = part.start;
-            out[0] = 2;
-            out[1] = from.0 as u64;
-            out[2] = part.len as u64;
-        }
-        Setting::Missing => {
-            out[0] = 255;
-            out[1] = 0;
-            out[2] = 0;
-        }
+    let s = lookup::lookup(table, name);
+    if s.found {
+        let v = s.value;
+        show_value(out, v);
+    } else {
+        numbers::store(out, 255, 0, 0);
     }
 }
 

@@ -1,8 +1,10 @@
 // The call that lists the tokens of an expression.
 use token::scan;
 use token::scan::Ending;
+use units::Dialect;
 ghost use mathlib.Core.Path.{_≡_};
 ghost use Rattle.token.specs.Tokens.{reading};
+ghost use Rattle.units.specs.Dialects.{STRICT};
 ghost use Rattle.marshal.specs.Calls.{Lists, endingNumber};
 
 // The refusal number of an ending, 0 if nothing was refused.
@@ -24,9 +26,9 @@ pub fn list(
     lens: &mut [u16; 200],
     values: &mut [u64; 200],
 )
-    ensures { λ r. ⌜ Lists (reading (now (expr .entry))) (now (out .entry)) (now (codes .entry)) (now (starts .entry)) (now (lens .entry)) (now (values .entry)) (now (out .exit)) (now (codes .exit)) (now (starts .exit)) (now (lens .exit)) (now (values .exit)) ⌝ }
+    ensures { λ r. ⌜ Lists (reading (now (expr .entry)) STRICT) (now (out .entry)) (now (codes .entry)) (now (starts .entry)) (now (lens .entry)) (now (values .entry)) (now (out .exit)) (now (codes .exit)) (now (starts .exit)) (now (lens .exit)) (now (values .exit)) ⌝ }
 {
-    let s = scan::tokens(codes, starts, lens, values, expr);
+    let s = scan::tokens(codes, starts, lens, values, expr, Dialect { bars: false });
     let read = s.tokens;
     let ending = s.ending;
     out[0] = number_of(ending) as u64;

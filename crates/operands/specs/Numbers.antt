@@ -1,37 +1,42 @@
--- An operand as seven numbers. Contracts between layers cite this; no promise does.
+-- An operand as six numbers. Contracts between layers cite this; no promise does.
 use Prim.Native.Nat.{ℕ}
 use mathlib.Core.List.{List}
 use lib.ListN.{getD}
 use lib.Dec.{eqb, ltb}
 use Rattle.text.specs.Bytes.{pick}
+use Rattle.lookup.specs.declared.Home.{Home}
+use Rattle.lookup.specs.declared.Home.the-variants.{Expression, Table}
+use Rattle.lookup.specs.declared.Place.{Place}
+use Rattle.lookup.specs.declared.TextKind.the-variants.{String, Wide}
+use Rattle.lookup.specs.declared.Value.{Value as CodedValue}
+use Rattle.lookup.specs.declared.Value.the-variants.{Number, Text, Fault}
 use Rattle.value.specs.declared.Kind.{Kind}
 use Rattle.value.specs.declared.Kind.the-variants.{Number as NumberKind, String as StringKind, Wide as WideKind, Clash}
-use Rattle.value.specs.declared.Place.{Place}
-use Rattle.value.specs.declared.Value.{Value as CodedValue}
-use Rattle.value.specs.declared.Value.the-variants.{Number, String, Wide, Fault}
 use Rattle.value.specs.declared.Attributes.{Attributes as CodedAttributes}
 use Rattle.operands.specs.declared.numbers.Shaped.{Shaped}
 
 abbrev pub kindIn : ℕ → Kind
 kindIn n = pick (eqb n 0) NumberKind (pick (eqb n 1) StringKind (pick (eqb n 2) WideKind Clash))
 
+abbrev pub homeIn : ℕ → Home
+homeIn n = pick (eqb n 0) Expression Table
+
 -- the place of a string
 abbrev pub placeIn : Shaped → Place
-placeIn s = record { tabled = s .tabled; start = record { 0 = s .first }; len = s .len }
+placeIn s = record { home = homeIn (s .home); start = record { 0 = s .first }; len = s .len }
 
 -- a value by its shape: 0 a number, 1 a string, 2 a wide string, any other a fault
 abbrev pub valueIn : Shaped → CodedValue
 valueIn s =
     pick (eqb (s .shape) 0) (Number (s .first))
-    (pick (eqb (s .shape) 1) (String (placeIn s))
-    (pick (eqb (s .shape) 2) (Wide (placeIn s)) (Fault (pick (ltb (s .first) 256) (s .first) 0))))
+    (pick (eqb (s .shape) 1) (Text String (placeIn s))
+    (pick (eqb (s .shape) 2) (Text Wide (placeIn s)) (Fault (pick (ltb (s .first) 256) (s .first) 0))))
 
--- kind, shape, number or start, length, whether in the table, number of operators, whether a PCD is missing
+-- kind, shape, number or start, length, home, number of operators
 abbrev pub operandIn : List ℕ → CodedAttributes
 operandIn w =
     record {
       kind = kindIn (getD w 0 0);
-      value = valueIn (record { shape = getD w 1 0; first = getD w 2 0; len = getD w 3 0; tabled = eqb (getD w 4 0) 1 });
+      value = valueIn (record { shape = getD w 1 0; first = getD w 2 0; len = getD w 3 0; home = getD w 4 0 });
       count = getD w 5 0;
-      missing = eqb (getD w 6 0) 1;
     }

@@ -1,20 +1,23 @@
-// An operand as seven numbers, so that memory for operands can be lent.
+// An operand as six numbers, so that memory for operands can be lent.
+use lookup::Home;
+use lookup::Place;
+use lookup::TextKind;
+use lookup::Value;
 use units::Offset;
 use value::Attributes;
 use value::Kind;
-use value::Place;
-use value::Value;
 ghost use mathlib.Core.Path.{_≡_};
-ghost use lib.Dec.{eqb, ltb};
+ghost use lib.Dec.{ltb};
 ghost use Rattle.text.specs.Bytes.{pick};
-ghost use Rattle.operands.specs.Numbers.{kindIn, valueIn, operandIn};
+ghost use Rattle.lookup.specs.declared.Value.the-variants.{Text};
+ghost use Rattle.operands.specs.Numbers.{kindIn, homeIn, placeIn, valueIn, operandIn};
 
-// The numbers of a value: its shape, its number or the start of its string, the string's length, and whether the string is in the table.
+// The numbers of a value: its shape, its number or the start of its string, and the length and the home of the string.
 pub struct Shaped {
     pub shape: usize,
     pub first: usize,
     pub len: usize,
-    pub tabled: bool,
+    pub home: usize,
 }
 
 fn number_of_kind(k: Kind) -> usize
@@ -39,22 +42,44 @@ fn kind_in(n: usize) -> Kind
     }
 }
 
-fn number_of_flag(b: bool) -> usize
-    ensures { λ r. ⌜ eqb r 1 ≡ b ⌝ }
+fn number_of_home(h: Home) -> usize
+    ensures { λ r. ⌜ homeIn r ≡ h ⌝ }
 {
-    if b { 1 } else { 0 }
+    match h {
+        Home::Expression => 0,
+        Home::Table => 1,
+    }
 }
 
-// The shape and the numbers of a string at a place.
-fn shape_of_string(shape: usize, p: Place) -> Shaped
-    ensures { λ r. ⌜ r ≡ record { shape = shape; first = p .start .0; len = p .len; tabled = p .tabled } ⌝ }
+fn home_in(n: usize) -> Home
+    ensures { λ r. ⌜ r ≡ homeIn n ⌝ }
+{
+    match n {
+        0 => Home::Expression,
+        _ => Home::Table,
+    }
+}
+
+// The numbers of a string at a place.
+fn shape_at(shape: usize, p: Place) -> Shaped
+    ensures { λ r. ⌜ (r .shape ≡ shape) × (placeIn r ≡ p) ⌝ }
 {
     let start = p.start;
+    let home = p.home;
     Shaped {
         shape,
         first: start.0,
         len: p.len,
-        tabled: p.tabled,
+        home: number_of_home(home),
+    }
+}
+
+fn shape_of_text(k: TextKind, p: Place) -> Shaped
+    ensures { λ r. ⌜ valueIn r ≡ Text k p ⌝ }
+{
+    match k {
+        TextKind::String => shape_at(1, p),
+        TextKind::Wide => shape_at(2, p),
     }
 }
 
@@ -66,15 +91,14 @@ fn shape_of(v: Value) -> Shaped
             shape: 0,
             first: x as usize,
             len: 0,
-            tabled: false,
+            home: 0,
         },
-        Value::String(p) => shape_of_string(1, p),
-        Value::Wide(p) => shape_of_string(2, p),
+        Value::Text(k, p) => shape_of_text(k, p),
         Value::Fault(number) => Shaped {
             shape: 3,
             first: number as usize,
             len: 0,
-            tabled: false,
+            home: 0,
         },
     }
 }
@@ -90,20 +114,20 @@ fn value_in(s: Shaped) -> Value
     ensures { λ r. ⌜ r ≡ valueIn s ⌝ }
 {
     let p = Place {
-        tabled: s.tabled,
+        home: home_in(s.home),
         start: Offset(s.first),
         len: s.len,
     };
     let shape = s.shape;
     match shape {
         0 => Value::Number(s.first as u64),
-        1 => Value::String(p),
-        2 => Value::Wide(p),
+        1 => Value::Text(TextKind::String, p),
+        2 => Value::Text(TextKind::Wide, p),
         _ => Value::Fault(fault_in(s.first)),
     }
 }
 
-pub fn encode(a: Attributes) -> [usize; 7]
+pub fn encode(a: Attributes) -> [usize; 6]
     ensures { λ r. ⌜ operandIn r ≡ a ⌝ }
 {
     let kind = a.kind;
@@ -114,20 +138,19 @@ pub fn encode(a: Attributes) -> [usize; 7]
         s.shape,
         s.first,
         s.len,
-        number_of_flag(s.tabled),
+        s.home,
         a.count,
-        number_of_flag(a.missing),
     ]
 }
 
-pub fn decode(w: [usize; 7]) -> Attributes
+pub fn decode(w: [usize; 6]) -> Attributes
     ensures { λ r. ⌜ r ≡ operandIn w ⌝ }
 {
     let s = Shaped {
         shape: w[1],
         first: w[2],
         len: w[3],
-        tabled: w[4] == 1,
+        home: w[4],
     };
     let kind = kind_in(w[0]);
     let value = value_in(s);
@@ -135,6 +158,5 @@ pub fn decode(w: [usize; 7]) -> Attributes
         kind,
         value,
         count: w[5],
-        missing: w[6] == 1,
     }
 }

@@ -1,30 +1,18 @@
--- The answer after the last line, from the arrays of the selection. Assumes nothing.
-use Prim.Native.Nat.{ℕ, _-_}
+-- The answer after the last line, from the numbers of the selection. Assumes nothing.
+use Prim.Native.Nat.{ℕ, zero, suc, _-_}
 use native.Mathlib.Omega.{arith}
-use mathlib.Core.Path.{_≡_, refl, ap, _∙_}
-use mathlib.Core.List.{List, [], _∷_}
-use lib.ListN.{length, getD}
-use Rattle.nesting.specs.Groups.{Group, group}
-use Rattle.nesting.specs.Decide.{State}
-use Rattle.nesting.specs.Stack.{Lined, Represents}
-use Rattle.nesting.specs.declared.Selection.{Selection}
+use mathlib.Core.Path.{_≡_, refl}
+use mathlib.Core.List.{List}
+use lib.ListN.{getD}
+use Rattle.groups.specs.Stack.{groupsIn}
 use Rattle.select.specs.Running.{ends}
 use Rattle.select.specs.declared.Answer.the-variants.{Accepted, Refused}
 
-module _ (x : Selection) (s : State) (r : Represents x s) (n : ℕ) where
-  pub no-group : x .depth ≡ 0 → Accepted (record { 0 = n }) (x .count) ≡ ends n (s .groups) (s .count)
-  no-group e = by (s .groups) refl
-    where
-      by : (gs : List Group) → s .groups ≡ gs → Accepted (record { 0 = n }) (x .count) ≡ ends n gs (s .count)
-      by [] g = rw (r .count)
-      by (y ∷ gs) g = absurd (omega (arith, e, r .depth, ap length g))
+module _ (n count states : ℕ) (ls : List ℕ) where
+  pub no-group : (depth : ℕ) → depth ≡ 0 → Accepted (record { 0 = n }) count ≡ ends n (groupsIn depth states ls) count
+  no-group d e = rw e
 
-  pub top-line : (x .depth ≡ 0 → ⊥) → Refused (record { number = 21; line = record { 0 = getD (x .lines) (x .depth - 1) 0 } }) ≡ ends n (s .groups) (s .count)
-  top-line h = by (s .groups) refl
-    where
-      by : (gs : List Group) → s .groups ≡ gs → Refused (record { number = 21; line = record { 0 = getD (x .lines) (x .depth - 1) 0 } }) ≡ ends n gs (s .count)
-      by [] g = absurd (h (r .depth ∙ ap length g))
-      by (group w b l ∷ gs) g =
-          let k : Lined (group w b l ∷ gs) (x .lines) = rw g at (r .lined) in
-          let i : x .depth - 1 ≡ length gs = omega (arith, r .depth, ap length g) in
-          rw (i, k .0)
+  pub top-line : (depth : ℕ) → (depth ≡ 0 → ⊥)
+      → Refused (record { number = 21; line = record { 0 = getD ls (depth - 1) 0 } }) ≡ ends n (groupsIn depth states ls) count
+  top-line zero h = absurd (h refl)
+  top-line (suc d) h = let e : suc d - 1 ≡ d = omega arith in rw e

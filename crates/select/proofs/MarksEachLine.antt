@@ -3,9 +3,9 @@ use Prim.Native.Nat.{ℕ, suc, _+_}
 use mathlib.Core.Path.{_≡_, refl, ap}
 use mathlib.Core.List.{List, [], _∷_}
 use lib.ListN.{length}
+use Rattle.units.specs.declared.Dialect.{Dialect}
 use Rattle.line.specs.Lines.{lines}
-use Rattle.nesting.specs.Groups.{Group, group}
-use Rattle.nesting.specs.Decide.{State, Outcome, go, stop}
+use Rattle.groups.specs.Groups.{Group, State, Outcome, go, stop}
 use Rattle.select.specs.Step.{step}
 use Rattle.select.specs.Select.{Result, accepted, refused, prepend, atEnd, after, run, start, selection}
 use Rattle.select.proofs.LimitsCorrect.{accepted-runs}
@@ -17,7 +17,7 @@ Many n (refused k l) = Unit
 
 many-end : (gs : List Group) (c : ℕ) → Many 0 (atEnd gs c)
 many-end [] c = refl
-many-end (group s b n ∷ gs) c = tt
+many-end (g ∷ gs) c = tt
 
 many-more : (m n : ℕ) (r : Result) → Many n r → Many (suc n) (prepend m r)
 many-more m n (accepted ms c) h = ap suc h
@@ -27,10 +27,10 @@ many-after : (o : Outcome) (n k : ℕ) (rest : State → Result) → ((s : State
 many-after (go m s) n k rest h = many-more m k (rest s) (h s)
 many-after (stop r) n k rest h = tt
 
-many : (t : List ℕ) (n : ℕ) (s : State) (ls : List (List ℕ)) → Many (length ls) (run t n s ls)
+many : (t : List ℕ) (δ : Dialect) (n : ℕ) (s : State) (ls : List (List ℕ)) → Many (length ls) (run t n s ls δ)
 unfolding run
-many t n s [] = many-end (s .groups) (s .count)
-many t n s (l ∷ ls) = many-after (step t n s l) n (length ls) (λ s′. run t (n + 1) s′ ls) (λ s′. many t (n + 1) s′ ls)
+many t δ n s [] = many-end (s .groups) (s .count)
+many t δ n s (l ∷ ls) = many-after (step t n s l δ) n (length ls) (λ s′. run t (n + 1) s′ ls δ) (λ s′. many t δ (n + 1) s′ ls)
 
-pub marks-each-line : (f t : List ℕ) (room : ℕ) (ms : List ℕ) (c : ℕ) → selection f t room ≡ accepted ms c → length ms ≡ length (lines f)
-marks-each-line f t room ms c h = rw (accepted-runs f t room ms c h .0) at (many t 1 start (lines f))
+pub marks-each-line : (f t : List ℕ) (δ : Dialect) (room : ℕ) (ms : List ℕ) (c : ℕ) → selection f t room δ ≡ accepted ms c → length ms ≡ length (lines f)
+marks-each-line f t δ room ms c h = rw (accepted-runs f t δ room ms c h .0) at (many t δ 1 start (lines f))

@@ -3,103 +3,110 @@
 use Prim.Native.Nat.{ℕ, _+_, _≤_, _<_}
 use native.Mathlib.Omega.{arith}
 use native.Mathlib.Nat.{add-zero}
-use mathlib.Core.Path.{_≡_, sym, _∙_}
-use mathlib.Core.Bool.{Bool, true, false, false≢true}
+use mathlib.Core.Path.{_≡_, refl, sym, ap, _∙_, subst}
+use mathlib.Core.Bool.{Bool, true, false}
 use mathlib.Core.List.{List}
 use lib.ListN.{length}
 use lib.Dec.{ltb}
-use borrow.Author.Tests.{lt-ltb, le-ltb}
+use borrow.Author.Tests.{lt-ltb, le-ltb, ltb-true, ltb-false}
+use Rattle.units.specs.declared.Dialect.{Dialect}
 use Rattle.units.specs.Refusals.{LINE-LONG}
 use Rattle.text.proofs.Laws.{pick-case}
 use Rattle.line.specs.Directives.{directiveOf, textOf}
 use Rattle.line.specs.declared.Directive.{Directive}
 use Rattle.line.specs.declared.Directive.the-variants.{Plain}
-use Rattle.condition.specs.Conditions.{evaluate, countOf}
 use Rattle.line.specs.declared.Condition.{Condition}
-use Rattle.line.specs.declared.Condition.the-variants.{Fails}
+use Rattle.condition.specs.Conditions.{evaluate, countOf}
 use Rattle.condition.proofs.Counts.{count-small}
-use Rattle.nesting.specs.Groups.{stateOf}
-use Rattle.text.specs.Bytes.{pick}
-use Rattle.ruling.specs.States.{reads, isActive}
-use Rattle.ruling.specs.declared.GroupState.{GroupState}
-use Rattle.ruling.specs.Rules.{KEPT, DROPPED}
-use Rattle.nesting.specs.Decide.{State, Outcome, go, stop, decided}
-use Rattle.nesting.specs.Stack.{Meets}
-use Rattle.nesting.specs.declared.Selection.{Selection}
-use Rattle.nesting.specs.declared.Step.{Step}
-use Rattle.nesting.proofs.Decided.{Counts, decided-counts}
-use Rattle.select.specs.Step.{readCondition, step}
+use Rattle.groups.specs.Rules.{plainMark, plan, conclude}
+use Rattle.groups.specs.Groups.{innermost, State, Outcome, go, stop}
+use Rattle.groups.specs.Stack.{denoteSelection, Suits}
+use Rattle.groups.specs.declared.Selection.{Selection}
+use Rattle.groups.specs.declared.Innermost.{Innermost}
+use Rattle.groups.specs.declared.Transition.{Transition}
+use Rattle.groups.specs.declared.Plan.{Plan}
+use Rattle.groups.specs.declared.Plan.the-variants.{Read, Unread}
+use Rattle.groups.proofs.Stacks.{same-depth}
+use Rattle.groups.proofs.Plans.{Above, Below, Suitable, suitable, Shows, applied-shows}
+use Rattle.select.specs.Step.{planned, decided, step}
 
 -- a directive that is read is not plain
-pub other-read : (d : Directive) (v : GroupState) → reads d v ≡ true → d ≡ Plain → ⊥
-unfolding reads
-other-read d v h e = let k : false ≡ true = rw e at h in false≢true k
+pub other-read : (d : Directive) (v : Innermost) → plan d v ≡ Read → d ≡ Plain → ⊥
+unfolding plan
+other-read d v h e = let k : plan Plain v ≡ Read = rw e at h in let z : _≡_ {A = ℕ} 0 1 = cc in omega arith
 
-module _ (t : List ℕ) (n : ℕ) (s : State) (l : List ℕ) where
-  -- whether a line is read, by its head and the state of the innermost group in the code
-  pub read-as : (d : Directive) (v : GroupState) (b : Bool) → d ≡ directiveOf l → v ≡ stateOf (s .groups) → reads d v ≡ b
-      → reads (directiveOf l) (stateOf (s .groups)) ≡ b
-  read-as d v b e k h = rw (← e, ← k) h
+module _ (t : List ℕ) (δ : Dialect) (n : ℕ) (s : State) (l : List ℕ) where
+  -- the condition that the text of the line makes
+  abbrev pub said : Condition
+  said = evaluate t (directiveOf l) (textOf l) δ
 
-  pub long-step : 1024 < length l → step t n s l ≡ stop LINE-LONG
+  pub long-step : 1024 < length l → step t n s l δ ≡ stop LINE-LONG
   unfolding step
   long-step h = rw (lt-ltb 1024 (length l) h)
 
-  pub decided-step : length l ≤ 1024 → step t n s l ≡ decided (directiveOf l) (readCondition t (s .groups) l) n
-      (s .count + countOf (readCondition t (s .groups) l)) (s .groups)
+  pub decided-step : length l ≤ 1024 → step t n s l δ ≡ decided (directiveOf l) said n s
   unfolding step
   decided-step h = rw (le-ltb 1024 (length l) h)
 
-  pub unread-step : length l ≤ 1024 → reads (directiveOf l) (stateOf (s .groups)) ≡ false
-      → step t n s l ≡ decided (directiveOf l) (Fails 0) n (s .count) (s .groups)
-  unfolding readCondition
-  unread-step h r = decided-step h ∙ rw (r, add-zero (s .count))
+  -- by the plan of its directive
+  pub planned-step : (p : Plan) → length l ≤ 1024 → plan (directiveOf l) (innermost (s .groups)) ≡ p → step t n s l δ ≡ planned p (directiveOf l) said n s
+  planned-step p h e = decided-step h ∙ rw e
 
   -- a plain line does not change the state
-  pub plain-step : length l ≤ 1024 → directiveOf l ≡ Plain → step t n s l ≡ go (pick (isActive (stateOf (s .groups))) KEPT DROPPED) s
-  unfolding decided reads
-  plain-step h e = unread-step h (rw e) ∙ rw e
+  pub plain-step : length l ≤ 1024 → directiveOf l ≡ Plain → step t n s l δ ≡ go (plainMark (innermost (s .groups))) s
+  unfolding plan
+  plain-step h e = decided-step h ∙ rw (e, add-zero (s .count))
 
-  pub read-step : length l ≤ 1024 → reads (directiveOf l) (stateOf (s .groups)) ≡ true
-      → step t n s l ≡ decided (directiveOf l) (evaluate t (directiveOf l) (textOf l)) n
-      (s .count + countOf (evaluate t (directiveOf l) (textOf l))) (s .groups)
-  unfolding readCondition
-  read-step h r = decided-step h ∙ rw r
+  -- a line with any other outcome is not too long
+  pub short-step : (o : Outcome) → step t n s l δ ≡ o → (o ≡ stop LINE-LONG → ⊥) → length l ≤ 1024
+  short-step o e h = by (ltb 1024 (length l)) refl
+    where
+      by : (b : Bool) → ltb 1024 (length l) ≡ b → length l ≤ 1024
+      by true q = absurd (h (sym e ∙ long-step (ltb-true 1024 (length l) q)))
+      by false q = ltb-false 1024 (length l) q
 
-  read-condition-small : countOf (readCondition t (s .groups) l) < 200
-  unfolding readCondition
-  read-condition-small =
-      pick-case (λ (c : Condition). countOf c < 200) (reads (directiveOf l) (stateOf (s .groups)))
-      (λ _. count-small t (directiveOf l) (textOf l)) (λ _. omega arith)
+  -- the mark and the count of a step, by the plan of its directive
+  abbrev pub Marked : Plan → Outcome → Type 0
+  Marked Read o = Shows Above (s .count + countOf said) o
+  Marked (Unread r) o = Shows Below (s .count + 0) o
 
-  -- the count of a step, if it has one
-  Small : Outcome → Type 0
-  Small (go m s′) = s′ .count < s .count + 200
-  Small (stop r) = Unit
+  planned-marked : (p : Plan) → Suitable (directiveOf l) (innermost (s .groups)) p → Marked p (planned p (directiveOf l) said n s)
+  planned-marked Read h = applied-shows Above (conclude (directiveOf l) (innermost (s .groups)) said) n (countOf said) s (h said .marks)
+  planned-marked (Unread r) h = applied-shows Below r n 0 s (h .marks)
 
-  counts-small : (o : Outcome) → Counts (s .count + countOf (readCondition t (s .groups) l)) o → Small o
-  unfolding Small
-  counts-small (go m s′) e = omega (arith, e, read-condition-small)
-  counts-small (stop r) e = tt
+  stop-marked : (p : Plan) (r : ℕ) → Marked p (stop r)
+  stop-marked Read r = tt
+  stop-marked (Unread q) r = tt
 
-  step-is-small : Small (step t n s l)
-  unfolding step Small
-  step-is-small =
-      let c = readCondition t (s .groups) l in
-      let k = s .count + countOf c in
-      pick-case Small (ltb 1024 (length l)) (λ _. tt)
-      (λ _. counts-small (decided (directiveOf l) c n k (s .groups)) (decided-counts (directiveOf l) c n k (s .groups)))
+  pub step-marked : Marked (plan (directiveOf l) (innermost (s .groups))) (step t n s l δ)
+  unfolding step
+  step-marked =
+      let p : Plan = plan (directiveOf l) (innermost (s .groups)) in
+      pick-case (Marked p) (ltb 1024 (length l)) (λ _. stop-marked p LINE-LONG)
+      (λ _. planned-marked p (suitable (directiveOf l) (innermost (s .groups))))
 
-  pub step-small : (m : ℕ) (s′ : State) → step t n s l ≡ go m s′ → s′ .count < s .count + 200
-  unfolding Small
-  step-small m s′ e = rw e at step-is-small
+  pub step-small : (m : ℕ) (s′ : State) → step t n s l δ ≡ go m s′ → s′ .count < s .count + 200
+  step-small m s′ e = by (plan (directiveOf l) (innermost (s .groups))) (rw e at step-marked)
+    where
+      by : (p : Plan) → Marked p (go m s′) → s′ .count < s .count + 200
+      by Read h = omega (arith, h .1, count-small t (directiveOf l) (textOf l) δ)
+      by (Unread r) h = omega (arith, h .1)
 
--- a step from another selection of the same groups, accepted or refused
-module _ (x y : Selection) (z : Step) where
-  pub went-on : (o : Outcome) → Meets y z o → z .ok ≡ true → Meets x z o
-  went-on (go m s) h e = h
-  went-on (stop r) h e = absurd (false≢true (sym (h .0) ∙ e))
+-- the code's plan of a directive, from its selection x, suits the number of open groups
+module _ (x : Selection) (d : Directive) (v : Innermost) (asked : v ≡ innermost (denoteSelection x .groups)) (p : Plan) (planned-so : p ≡ plan d v) where
+  depth-asked : v .depth ≡ x .depth
+  depth-asked = ap (λ (i : Innermost). i .depth) asked ∙ same-depth (x .depth) (x .states) (x .lines)
 
-  pub refused-back : (w : Step) (o : Outcome) → Meets y z o → z .ok ≡ false → Meets x w (stop (z .number)) → Meets x w o
-  refused-back w (go m s) h e k = absurd (false≢true (sym e ∙ h .0))
-  refused-back w (stop r) h e k = (k .0, k .1 ∙ h .1, k .2, k .3)
+  pub unread-suits : (r : Transition) → p ≡ Unread r → Suits r (x .depth)
+  unread-suits r h =
+      let z : Suitable d v (Unread r) = rw (sym planned-so ∙ h) at (suitable d v) in
+      subst (Suits r) depth-asked (z .suits)
+
+  pub read-suits : (r : Transition) (c : Condition) → p ≡ Read → r ≡ conclude d v c → Suits r (x .depth)
+  read-suits r c h e =
+      let z : Suitable d v Read = rw (sym planned-so ∙ h) at (suitable d v) in
+      subst (Suits r) depth-asked (rw e (z c .suits))
+
+  -- the plan of the line
+  pub line-planned : (l : List ℕ) (q : Plan) → d ≡ directiveOf l → p ≡ q → plan (directiveOf l) (innermost (denoteSelection x .groups)) ≡ q
+  line-planned l q e h = rw (← e, ← asked) (sym planned-so ∙ h)

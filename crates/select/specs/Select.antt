@@ -6,12 +6,12 @@ use mathlib.Core.Path.{_≡_}
 use mathlib.Core.List.{List, [], _∷_, _++_}
 use lib.ListN.{length, drop, replicate}
 use lib.Dec.{ltb}
+use Rattle.units.specs.declared.Dialect.{Dialect}
 use Rattle.units.specs.Refusals.{TABLE-MALFORMED, FILE-LONG, LINES-MANY, MARKS-SHORT, FILE-UNFINISHED}
 use Rattle.text.specs.Bytes.{pick}
 use Rattle.settings.specs.Table.{wellFormed}
 use Rattle.line.specs.Lines.{lines}
-use Rattle.nesting.specs.Groups.{Group, group}
-use Rattle.nesting.specs.Decide.{State, state, Outcome, go, stop}
+use Rattle.groups.specs.Groups.{Group, State, state, Outcome, go, stop}
 use Rattle.select.specs.Step.{step}
 use Rattle.select.specs.declared.Answer.{Answer}
 use Rattle.select.specs.declared.Answer.the-variants.{Accepted, Refused}
@@ -36,7 +36,7 @@ prepend m (refused k n) = refused k n
 -- at the end no group may be open
 abbrev pub atEnd : List Group → (count : ℕ) → Result
 atEnd [] c = accepted [] c
-atEnd (group s b n ∷ gs) c = refused FILE-UNFINISHED n
+atEnd (g ∷ gs) c = refused FILE-UNFINISHED (g .line)
 
 -- the outcome of line n, and then the lines after it
 abbrev pub after : Outcome → (n : ℕ) → (State → Result) → Result
@@ -44,22 +44,22 @@ after (go m s) n rest = prepend m (rest s)
 after (stop k) n rest = refused k n
 
 -- the lines from line n on
-unfoldable pub run : (t : List ℕ) → (n : ℕ) → State → List (List ℕ) → Result
-run t n s [] = atEnd (s .groups) (s .count)
-run t n s (l ∷ ls) = after (step t n s l) n (λ s′. run t (n + 1) s′ ls)
+unfoldable pub run : (t : List ℕ) → (n : ℕ) → State → List (List ℕ) → Dialect → Result
+run t n s [] δ = atEnd (s .groups) (s .count)
+run t n s (l ∷ ls) δ = after (step t n s l δ) n (λ s′. run t (n + 1) s′ ls δ)
 
 -- no group is open, no operator was applied
 abbrev pub start : State
 start = state [] 0
 
 -- the selection of a file f over a table t, with room for this many marks
-unfoldable pub selection : (f t : List ℕ) → (room : ℕ) → Result
-selection f t room =
+unfoldable pub selection : (f t : List ℕ) → (room : ℕ) → Dialect → Result
+selection f t room δ =
     pick (wellFormed t)
     (pick (ltb MAX-FILE (length f)) (refused FILE-LONG 0)
     (pick (ltb MAX-LINES (length (lines f))) (refused LINES-MANY 0)
     (pick (ltb room (length (lines f))) (refused MARKS-SHORT 0)
-    (run t 1 start (lines f)))))
+    (run t 1 start (lines f) δ))))
     (refused TABLE-MALFORMED 0)
 
 -- the answer: the number of lines and the count, or the refusal
@@ -91,6 +91,6 @@ marksOf m (accepted ms c) = ms ++ drop (length ms) m
 marksOf m (refused k n) = replicate (length m) 255
 
 -- the answer of a call and the marks after it
-pub record Selects (f t marks : List ℕ) (r : Answer) (marks′ : List ℕ) : Type 0 where
-  pub answer : r ≡ answerOf (selection f t (length marks))
-  pub marks-are : marks′ ≡ marksOf marks (selection f t (length marks))
+pub record Selects (f t marks : List ℕ) (r : Answer) (marks′ : List ℕ) (δ : Dialect) : Type 0 where
+  pub answer : r ≡ answerOf (selection f t (length marks) δ)
+  pub marks-are : marks′ ≡ marksOf marks (selection f t (length marks) δ)

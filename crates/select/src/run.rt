@@ -1,9 +1,11 @@
 // A run over the lines of a file.
 use crate::Answer;
 use crate::step;
+use groups::Selection;
+use groups::rules;
 use line::cut;
 use line::word;
-use nesting::Selection;
+use units::Dialect;
 use units::LineNumber;
 use units::Offset;
 use units::Refusal;
@@ -11,10 +13,9 @@ ghost use mathlib.Core.Path.{_≡_};
 ghost use mathlib.Core.Bool.{true};
 ghost use Prim.Native.Nat.{_≤_, _<_};
 ghost use lib.ListN.{length};
-ghost use Rattle.settings.specs.Table.{wellFormed};
+ghost use Rattle.settings.specs.Table.{ordered};
 ghost use Rattle.line.specs.Lines.{lines};
-ghost use Rattle.nesting.specs.Decide.{State};
-ghost use Rattle.nesting.specs.Stack.{Represents};
+ghost use Rattle.groups.specs.Stack.{denoteSelection, Represents};
 ghost use Rattle.select.specs.Select.{start as startOf};
 ghost use Rattle.select.specs.Running.{ends, Runs};
 
@@ -39,7 +40,7 @@ pub fn refused(number: u8, line: LineNumber) -> Answer
 // The answer after the last of n lines: the selection is accepted if no group is open, else refused at the innermost open `!if`.
 fn finish(x: Selection, n: LineNumber) -> Answer
     requires { ⌜ x .depth ≤ 16 ⌝ }
-    ensures { λ r. ⌜ ((s : State) → Represents x s → r ≡ ends (n .0) (s .groups) (s .count)) ⌝ }
+    ensures { λ r. ⌜ r ≡ ends (n .0) (denoteSelection x .groups) (x .count) ⌝ }
 {
     let depth = x.depth;
     if depth == 0 {
@@ -51,13 +52,13 @@ fn finish(x: Selection, n: LineNumber) -> Answer
 }
 
 // Marks the lines of a file in order, up to the first that is refused.
-pub fn run<'a>(marks: &mut [u8], file: &'a [u8], table: &'a [u8]) -> Answer
-    requires { ⌜ (wellFormed (now table) ≡ true) × (length (lines (now file)) ≤ length (now marks)) × (length (lines (now file)) ≤ 4096) ⌝ }
-    ensures { λ r. ⌜ Runs (now (file .entry)) (now (table .entry)) (now (marks .entry)) r (now (marks .exit)) ⌝ }
+pub fn run<'a>(marks: &mut [u8], file: &'a [u8], table: &'a [u8], dialect: Dialect) -> Answer
+    requires { ⌜ (ordered (now table) ≡ true) × (length (lines (now file)) ≤ length (now marks)) × (length (lines (now file)) ≤ 4096) ⌝ }
+    ensures { λ r. ⌜ Runs (now (file .entry)) (now (table .entry)) (now (marks .entry)) r (now (marks .exit)) dialect ⌝ }
 {
     let mut x = fresh();
     // the mark of plain lines in the current state
-    let mut mark = ruling::KEPT;
+    let mut mark = rules::KEPT;
     let mut at = Offset(0);
     let mut n = LineNumber(0);
     while at.0 < file.len() {
@@ -72,7 +73,7 @@ pub fn run<'a>(marks: &mut [u8], file: &'a [u8], table: &'a [u8]) -> Answer
         if step::is_passed(d, e - start) {
             marks[i] = mark;
         } else {
-            let z = step::step(table, line, x, &file[start..e], head);
+            let z = step::step(table, line, x, &file[start..e], head, dialect);
             let ok = z.ok;
             if !ok {
                 return refused(z.number, line);

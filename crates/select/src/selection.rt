@@ -3,7 +3,9 @@ use crate::Answer;
 use crate::run;
 use crate::uniform;
 use line::cut;
+use units::Dialect;
 use units::LineNumber;
+ghost use Rattle.units.specs.declared.Dialect.{Dialect};
 ghost use Rattle.select.specs.Select.{Selects};
 ghost use Rattle.select.specs.Running.{ChecksLimits};
 
@@ -17,7 +19,7 @@ const REFUSED: u8 = 255;
 
 // The number of the refusal before any line, 0 if there is none.
 fn check_limits<'a>(file: &'a [u8], table: &'a [u8], room: usize) -> u8
-    ensures { λ r. ⌜ ChecksLimits (now (file .entry)) (now (table .entry)) room r ⌝ }
+    ensures { λ r. ⌜ ((δ : Dialect) → ChecksLimits (now (file .entry)) (now (table .entry)) room r δ) ⌝ }
 {
     if !settings::is_well_formed(table) {
         return units::TABLE_MALFORMED;
@@ -36,15 +38,15 @@ fn check_limits<'a>(file: &'a [u8], table: &'a [u8], room: usize) -> u8
 }
 
 // Marks the lines of a file: the number of lines and the sum of the counts, or the refusal, and then every mark is 255.
-pub fn select<'a>(marks: &mut [u8], file: &'a [u8], table: &'a [u8]) -> Answer
-    ensures { λ r. ⌜ Selects (now (file .entry)) (now (table .entry)) (now (marks .entry)) r (now (marks .exit)) ⌝ }
+pub fn select<'a>(marks: &mut [u8], file: &'a [u8], table: &'a [u8], dialect: Dialect) -> Answer
+    ensures { λ r. ⌜ Selects (now (file .entry)) (now (table .entry)) (now (marks .entry)) r (now (marks .exit)) dialect ⌝ }
 {
     let number = check_limits(file, table, marks.len());
     if number != 0 {
         uniform::fill(marks, REFUSED);
         return run::refused(number, LineNumber(0));
     }
-    let r = run::run(marks, file, table);
+    let r = run::run(marks, file, table, dialect);
     match r {
         Answer::Accepted(_, _) => r,
         Answer::Refused(_) => {

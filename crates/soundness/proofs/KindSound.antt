@@ -4,8 +4,7 @@ use Prim.Native.Nat.{ℕ, _+_, _*_, _-_, _/_, _%_, _^_}
 use native.Mathlib.Omega.{arith}
 use mathlib.Core.Path.{_≡_, refl, sym, ap, _∙_}
 use mathlib.Core.Logic.{inl, inr}
-use mathlib.Core.Bool.{Bool, true, false, _&&_, and-false}
-use mathlib.Core.List.{List}
+use mathlib.Core.Bool.{Bool, true, false, _&&_, and-false, false≢true}
 use lib.Dec.{eqb, ltb, leb}
 use borrow.Author.Tests.{eqb-true, ltb-true}
 use Rattle.units.specs.Refusals.{RESULT-RANGE, DIVISOR-ZERO}
@@ -16,8 +15,11 @@ use Rattle.arithmetic.specs.Operators.{Unary, negation, complement, minus, plus
 use Rattle.arithmetic.specs.Operators.{difference, shift-left, shift-right, bit-and, bit-xor, bit-or, and, xor, or, applyBinary, binary}
 use Rattle.arithmetic.specs.declared.Outcome.{Outcome}
 use Rattle.arithmetic.specs.declared.Outcome.the-variants.{Number as Result, Refused}
-use Rattle.value.specs.Kinds.{kindNumber, isNumber, alikeKinds, compares, unaryKind, binaryKind, choiceKind}
-use Rattle.value.specs.Values.{Value, number, string, wide, fault, kindOf, RuntimeRefusal, HasKind, resultOf}
+use Rattle.lookup.specs.declared.TextKind.{TextKind}
+use Rattle.lookup.specs.declared.TextKind.the-variants.{String as TextString, Wide as TextWide}
+use Rattle.value.specs.Places.{Memory}
+use Rattle.value.specs.Kinds.{kindNumber, ofText, isNumber, compares, suits, unaryKind, binaryKind, choiceKind}
+use Rattle.value.specs.Values.{Value, number, text, fault, kindOf, RuntimeRefusal, HasKind, resultOf}
 use Rattle.value.specs.Values.{unaryValue, skips, bothValues, binaryValue, choiceValue}
 use Rattle.value.specs.Attributes.{Attributes, primaryOf, unaryFrom, binaryFrom, choiceFrom}
 use Rattle.value.specs.declared.Kind.{Kind}
@@ -75,16 +77,26 @@ applied-timely or x y = tt
 -- a primary: its kind is that of its value
 leaf-suits : (v : Value) → (kindOf v ≡ Clash → ⊥) → HasKind (kindOf v) v
 leaf-suits (number x) n = refl
-leaf-suits (string p s) n = refl
-leaf-suits (wide p s) n = refl
+leaf-suits (text k p s) n = refl
 leaf-suits (fault r) n = absurd (n refl)
+
+-- a string is no number
+text-number : (k : TextKind) → isNumber (ofText k) ≡ false
+text-number TextString = refl
+text-number TextWide = refl
+
+number-text : (k : TextKind) → eqb 0 (kindNumber (ofText k)) ≡ false
+number-text TextString = refl
+number-text TextWide = refl
+
+no-number : (k : TextKind) (j : Kind) → j ≡ ofText k → isNumber j ≡ true → ⊥
+no-number k j e h = false≢true (sym (text-number k) ∙ ap isNumber (sym e) ∙ h)
 
 -- a unary operator: a number becomes a number
 number-suits : (o : ℕ) (v : Value) → HasKind Number v → HasKind Number (unaryValue o v)
 unfolding unaryValue
 number-suits o (number x) h = result-suits (applyUnary (unary o) x) (changed-timely (unary o) x)
-number-suits o (string p s) h = absurd (omega (arith, ap kindNumber h))
-number-suits o (wide p s) h = absurd (omega (arith, ap kindNumber h))
+number-suits o (text k p s) h = absurd (no-number k Number h refl)
 number-suits o (fault n) h = h
 
 unary-suits : (o : ℕ) (k : Kind) (v : Value) → ((k ≡ Clash → ⊥) → HasKind k v) → (unaryKind k ≡ Clash → ⊥) → HasKind (unaryKind k) (unaryValue o v)
@@ -114,8 +126,7 @@ clash-right o Clash = mixed (compares o)
 binary-number : (o : ℕ) (j k : Kind) → (binaryKind o j k ≡ Clash → ⊥) → binaryKind o j k ≡ Number
 unfolding binaryKind
 binary-number o j k =
-    pick-case (λ (x : Kind). (x ≡ Clash → ⊥) → x ≡ Number) (pick (compares o) (alikeKinds j k) (isNumber j && isNumber k)) (λ _ _. refl)
-    (λ _ n. absurd (n refl))
+    pick-case (λ (x : Kind). (x ≡ Clash → ⊥) → x ≡ Number) (suits o j k) (λ _ _. refl) (λ _ n. absurd (n refl))
 
 module _ (o : ℕ) (j k : Kind) (n : binaryKind o j k ≡ Clash → ⊥) where
   -- both operands are evaluated
@@ -123,17 +134,12 @@ module _ (o : ℕ) (j k : Kind) (n : binaryKind o j k ≡ Clash → ⊥) where
   unfolding binaryKind bothValues
   both-suit (number x) (number y) h i =
       pick-case (λ (z : Value). HasKind Number z) (compares o) (λ _. refl) (λ _. result-suits (applyBinary (binary o) x y) (applied-timely (binary o) x y))
-  both-suit (number x) (string q t) h i = absurd (n (rw (h, i, mixed (compares o))))
-  both-suit (number x) (wide q t) h i = absurd (n (rw (h, i, mixed (compares o))))
+  both-suit (number x) (text l q t) h i = absurd (n (rw (h, i, text-number l, number-text l, mixed (compares o))))
   both-suit (number x) (fault r) h i = i
-  both-suit (string p s) (number y) h i = absurd (n (rw (h, i, mixed (compares o))))
-  both-suit (string p s) (string q t) h i = pick-case (λ (z : Value). HasKind Number z) (compares o) (λ _. refl) (λ e. absurd (n (rw (h, i, e))))
-  both-suit (string p s) (wide q t) h i = absurd (n (rw (h, i, mixed (compares o))))
-  both-suit (string p s) (fault r) h i = i
-  both-suit (wide p s) (number y) h i = absurd (n (rw (h, i, mixed (compares o))))
-  both-suit (wide p s) (string q t) h i = absurd (n (rw (h, i, mixed (compares o))))
-  both-suit (wide p s) (wide q t) h i = pick-case (λ (z : Value). HasKind Number z) (compares o) (λ _. refl) (λ e. absurd (n (rw (h, i, e))))
-  both-suit (wide p s) (fault r) h i = i
+  both-suit (text l p s) (number y) h i = absurd (n (rw (h, i, text-number l, mixed (compares o))))
+  both-suit (text a p s) (text b q t) h i =
+      pick-case (λ (z : Value). HasKind Number z) (suits o (ofText a) (ofText b)) (λ _. refl) (λ e. absurd (n (rw (h, i, e))))
+  both-suit (text l p s) (fault r) h i = i
   both-suit (fault r) w h i = h
 
   binary-suits : (v w : Value) → ((j ≡ Clash → ⊥) → HasKind j v) → ((k ≡ Clash → ⊥) → HasKind k w) → HasKind (binaryKind o j k) (binaryValue o v w)
@@ -177,20 +183,18 @@ module _ (i j k : Kind) (n : choiceKind i j k ≡ Clash → ⊥) where
 
           chosen : (u : Value) → HasKind i u → HasKind j (choiceValue u v w)
           chosen (number x) s = pick-case (λ (z : Value). HasKind j z) (eqb x 0) (λ _. rw (same-kind j k q) (h (λ e. live (same-kind j k q ∙ e)))) (λ _. g live)
-          chosen (string l s) t = absurd (omega (arith, ap kindNumber t, eqb-true (kindNumber i) 0 p))
-          chosen (wide l s) t = absurd (omega (arith, ap kindNumber t, eqb-true (kindNumber i) 0 p))
+          chosen (text l q s) t = absurd (no-number l i t p)
           chosen (fault m) t = t
 
 -- each form, from its operands
-module _ (e t : List ℕ) where
-  pub primary-kind-sound : (k : Token) → KindSound (primaryOf e t k)
-  primary-kind-sound k = leaf-suits (primaryOf e t k .value)
+pub primary-kind-sound : (m : Memory) (k : Token) → KindSound (primaryOf m k)
+primary-kind-sound m k = leaf-suits (primaryOf m k .value)
 
-pub unary-kind-sound : (o : ℕ) (a : Attributes) → KindSound a → KindSound (unaryFrom o a)
-unary-kind-sound o a h = unary-suits o (a .kind) (a .value) h
+pub unary-kind-sound : (o : Token) (a : Attributes) → KindSound a → KindSound (unaryFrom o a)
+unary-kind-sound o a h = unary-suits (o .code) (a .kind) (a .value) h
 
-pub binary-kind-sound : (o : ℕ) (a b : Attributes) → KindSound a → KindSound b → KindSound (binaryFrom o a b)
-binary-kind-sound o a b h i n = binary-suits o (a .kind) (b .kind) n (a .value) (b .value) h i
+pub binary-kind-sound : (o : Token) (a b : Attributes) → KindSound a → KindSound b → KindSound (binaryFrom o a b)
+binary-kind-sound o a b h i n = binary-suits (o .code) (a .kind) (b .kind) n (a .value) (b .value) h i
 
-pub choice-kind-sound : (c a b : Attributes) → KindSound c → KindSound a → KindSound b → KindSound (choiceFrom c a b)
-choice-kind-sound c a b f g h n = choice-suits (c .kind) (a .kind) (b .kind) n (c .value) (a .value) (b .value) f g h
+pub choice-kind-sound : (o : Token) (c a b : Attributes) → KindSound c → KindSound a → KindSound b → KindSound (choiceFrom o c a b)
+choice-kind-sound o c a b f g h n = choice-suits (c .kind) (a .kind) (b .kind) n (c .value) (a .value) (b .value) f g h

@@ -7,8 +7,8 @@ use Rattle.arithmetic.specs.Operators.{unaryOf, binaryOf}
 use Rattle.arithmetic.specs.declared.Outcome.{Outcome}
 use Rattle.arithmetic.specs.declared.Outcome.the-variants.{Number as Result, Refused}
 use Rattle.units.specs.Refusals.{KINDS-UNSUITED}
-use Rattle.value.specs.Kinds.{compares}
-use Rattle.value.specs.Values.{Value, number, string, wide, fault, resultOf, unaryValue, skips, bothValues, binaryValue, choiceValue}
+use Rattle.value.specs.Kinds.{ofText, compares, suits}
+use Rattle.value.specs.Values.{Value, number, text, fault, resultOf, unaryValue, skips, bothValues, binaryValue, choiceValue}
 
 module _ (P : Value → Type 0) (numbers : (x : ℕ) → P (number x)) (faults : (r : ℕ) → P (fault r)) where
   result : (r : Outcome) → P (resultOf r)
@@ -18,24 +18,17 @@ module _ (P : Value → Type 0) (numbers : (x : ℕ) → P (number x)) (faults :
   pub of-unary : (o : ℕ) (v : Value) → P (unaryValue o v)
   unfolding unaryValue
   of-unary o (number x) = result (unaryOf o x)
-  of-unary o (string p s) = faults KINDS-UNSUITED
-  of-unary o (wide p s) = faults KINDS-UNSUITED
+  of-unary o (text k p s) = faults KINDS-UNSUITED
   of-unary o (fault r) = faults r
 
   of-both : (o : ℕ) (v w : Value) → P (bothValues o v w)
   unfolding bothValues
   of-both o (number x) (number y) = pick-case P (compares o) (λ _. numbers _) (λ _. result (binaryOf o x y))
-  of-both o (number x) (string q t) = faults KINDS-UNSUITED
-  of-both o (number x) (wide q t) = faults KINDS-UNSUITED
+  of-both o (number x) (text k q t) = faults KINDS-UNSUITED
   of-both o (number x) (fault r) = faults r
-  of-both o (string p s) (number y) = faults KINDS-UNSUITED
-  of-both o (string p s) (string q t) = pick-case P (compares o) (λ _. numbers _) (λ _. faults KINDS-UNSUITED)
-  of-both o (string p s) (wide q t) = faults KINDS-UNSUITED
-  of-both o (string p s) (fault r) = faults r
-  of-both o (wide p s) (number y) = faults KINDS-UNSUITED
-  of-both o (wide p s) (string q t) = faults KINDS-UNSUITED
-  of-both o (wide p s) (wide q t) = pick-case P (compares o) (λ _. numbers _) (λ _. faults KINDS-UNSUITED)
-  of-both o (wide p s) (fault r) = faults r
+  of-both o (text j p s) (number y) = faults KINDS-UNSUITED
+  of-both o (text j p s) (text k q t) = pick-case P (suits o (ofText j) (ofText k)) (λ _. numbers _) (λ _. faults KINDS-UNSUITED)
+  of-both o (text j p s) (fault r) = faults r
   of-both o (fault r) w = faults r
 
   pub of-binary : (o : ℕ) (v w : Value) → P (binaryValue o v w)
@@ -45,6 +38,5 @@ module _ (P : Value → Type 0) (numbers : (x : ℕ) → P (number x)) (faults :
   pub of-choice : (u v w : Value) → P v → P w → P (choiceValue u v w)
   unfolding choiceValue
   of-choice (number x) v w h k = pick-case P (eqb x 0) (λ _. k) (λ _. h)
-  of-choice (string p s) v w h k = faults KINDS-UNSUITED
-  of-choice (wide p s) v w h k = faults KINDS-UNSUITED
+  of-choice (text l p s) v w h k = faults KINDS-UNSUITED
   of-choice (fault r) v w h k = faults r

@@ -6,7 +6,7 @@ ghost use Rattle.grammar.specs.Grammar.{isPrimary};
 ghost use Rattle.syntax.specs.Order.{codeAt};
 
 // The code after the last token, which no token has.
-const END: u8 = 255;
+pub const END: u8 = 255;
 
 // The code of a token of n tokens, `END` after them.
 pub fn code_at(codes: &[u8; 200], n: TokenNumber, at: TokenNumber) -> u8

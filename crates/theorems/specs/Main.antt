@@ -1,15 +1,16 @@
 -- What is proved, on one page: each promise of docs/PROMISES.md that is a theorem, with its full statement, proved by citing its lemma.
--- Bytes are natural numbers; `e` is an expression, `t` a table of settings, `f` a file, each a list of bytes. The definitions in the
--- statements are in the files that the imports name. Demand 1 is no theorem here: the toolchain proves of each function that it ends, does
--- nothing undefined and gives an answer for any bytes.
+-- Bytes are natural numbers; `t` is a table of settings, `f` a file, each a list of bytes; `m` is a memory: an expression and a table; `δ` is
+-- any dialect. The definitions in the statements are in the files that the imports name.
+-- Demand 1 is no theorem here: the toolchain proves of each function that it ends, does nothing undefined and gives an answer for any bytes.
 use Prim.Native.Nat.{ℕ, _≤_, _<_}
 use mathlib.Core.Path.{_≡_}
 use mathlib.Core.Logic.{_↔_, _⊎_}
-use mathlib.Core.Bool.{true, false}
+use mathlib.Core.Bool.{true, false, not, _&&_}
 use mathlib.Core.List.{List, map}
 use lib.ListN.{length, getD, take}
 use Rattle.units.specs.Refusals.{TABLE-MALFORMED, NO-DERIVATION}
 use Rattle.units.specs.declared.Refusal.{Refusal}
+use Rattle.units.specs.declared.Dialect.{Dialect}
 use Rattle.settings.specs.Table.{wellFormed}
 use Rattle.token.specs.Tokens.{Token, reading}
 use Rattle.token.specs.declared.scan.Ending.the-variants.{Complete, Refused}
@@ -19,12 +20,12 @@ use Rattle.grammar.specs.Bars.{bare, barOutside}
 use Rattle.grammar.specs.Parse.{Reads, parse, accepted as parsed, refused as unparsed}
 use Rattle.grammar.proofs.Decided.{unambiguous, bounded, evaluates}
 use Rattle.grammar.proofs.Bars.{bars-seen}
-use Rattle.value.specs.Values.{Value, kindOf, HasKind}
-use Rattle.value.specs.Places.{InBounds}
+use Rattle.value.specs.Places.{Memory}
+use Rattle.value.specs.Values.{Value, kindOf, HasKind, InBounds, hasMissingPcd}
 use Rattle.value.specs.declared.Kind.the-variants.{Clash}
 use Rattle.expression.specs.Meaning.{codeOf, meaning as attributes}
-use Rattle.evaluation.specs.Evaluation.{value, refused as refusedWhole, refusedWith, lineOf, checkThenAnswer, evaluation}
-use Rattle.answers.proofs.AnswersExact.{malformed, unreadable as not-read, underived, derived, kind-sound, value-kind, counted}
+use Rattle.evaluation.specs.Evaluation.{value, refused as refusedWhole, refusedWith, lineOf, checkThenAnswer, evaluationIn, evaluation}
+use Rattle.answers.proofs.AnswersExact.{malformed, well-formed, unreadable as not-read, underived, derived, kind-sound, value-kind, counted}
 use Rattle.answers.proofs.StringsInBounds.{strings-in-bounds}
 use Rattle.answers.proofs.LineZero.{without-line}
 use Rattle.line.specs.Lines.{lines}
@@ -54,49 +55,54 @@ pub one-tree : {K : Type 0} (code : K → ℕ) (ts : List K) (s u : Tree K)
     → Derives code expression ts s → Derives code expression ts u → s ≡ u
 one-tree = unambiguous
 
--- Over a malformed table every expression is refused with 1.
-pub malformed-table : (e t : List ℕ) → wellFormed t ≡ false → evaluation e t ≡ refusedWith TABLE-MALFORMED
+-- Over a malformed table every expression is refused with 1. Over any other the answer is that without the check of the table, which is also
+-- what a condition of a selection takes; the theorems after these say what it is. So a value is answered over a well-formed table only.
+pub malformed-table : (m : Memory) (δ : Dialect) → wellFormed (m .table) ≡ false → evaluation m δ ≡ refusedWith TABLE-MALFORMED
 malformed-table = malformed
 
--- Over a well-formed table the refusals of reading the tokens come next: 2 to 6.
-pub unreadable : (e t : List ℕ) → wellFormed t ≡ true → (r : Refusal) → reading e .ending ≡ Refused r → evaluation e t ≡ refusedWhole r
+pub well-formed-table : (m : Memory) (δ : Dialect) → wellFormed (m .table) ≡ true → evaluation m δ ≡ evaluationIn m δ
+well-formed-table = well-formed
+
+-- The refusals of reading the tokens come first: 2 to 6.
+pub unreadable : (m : Memory) (δ : Dialect) (r : Refusal) → reading (m .expression) δ .ending ≡ Refused r → evaluationIn m δ ≡ refusedWhole r
 unreadable = not-read
 
 -- If reading is complete, the answer is refusal 7 exactly if the tokens derive no tree.
-pub no-derivation : (e t : List ℕ) → wellFormed t ≡ true → reading e .ending ≡ Complete
-    → (evaluation e t ≡ refusedWith NO-DERIVATION) ↔ ((s : Tree Token) → Derives codeOf expression (reading e .tokens) s → ⊥)
+pub no-derivation : (m : Memory) (δ : Dialect) → reading (m .expression) δ .ending ≡ Complete
+    → (evaluationIn m δ ≡ refusedWith NO-DERIVATION) ↔ ((s : Tree Token) → Derives codeOf expression (reading (m .expression) δ .tokens) s → ⊥)
 no-derivation = underived
 
--- If they derive a tree, it decides: 8 for a bar outside parentheses, then 9 and 10, else the value and the count of the tree, or 11 or 12.
-pub tree-decides : (e t : List ℕ) → wellFormed t ≡ true → reading e .ending ≡ Complete
-    → (s : Tree Token) (d : Derives codeOf expression (reading e .tokens) s)
-    → evaluation e t ≡ checkThenAnswer (bare codeOf d) (fold (attributes e t) s)
+-- If they derive a tree, it decides: 8 for a bar outside parentheses unless the dialect allows it, then 9 for a PCD that the table does not have,
+-- then 10, else the value and the count of the tree, or 11 or 12.
+pub tree-decides : (m : Memory) (δ : Dialect) → reading (m .expression) δ .ending ≡ Complete
+    → (s : Tree Token) (d : Derives codeOf expression (reading (m .expression) δ .tokens) s)
+    → evaluationIn m δ ≡ checkThenAnswer (not (δ .bars) && bare codeOf d) (hasMissingPcd m (reading (m .expression) δ .tokens)) (fold (attributes m) s)
 tree-decides = derived
 
 -- If the kinds in a tree do not clash, its value has the kind of the tree, or it is refusal 11 or 12.
-pub kinds-settle : (e t : List ℕ) (s : Tree Token)
-    → (fold (attributes e t) s .kind ≡ Clash → ⊥) → HasKind (fold (attributes e t) s .kind) (fold (attributes e t) s .value)
+pub kinds-settle : (m : Memory) (s : Tree Token)
+    → (fold (attributes m) s .kind ≡ Clash → ⊥) → HasKind (fold (attributes m) s .kind) (fold (attributes m) s .value)
 kinds-settle = kind-sound
 
 -- So an answered value has the kind of the tree, also if operands were skipped.
-pub value-has-its-kind : (e t : List ℕ) → wellFormed t ≡ true → reading e .ending ≡ Complete
-    → (s : Tree Token) → Derives codeOf expression (reading e .tokens) s
-    → (v : Value) (n : ℕ) → evaluation e t ≡ value v n → kindOf v ≡ fold (attributes e t) s .kind
+pub value-has-its-kind : (m : Memory) (δ : Dialect) → reading (m .expression) δ .ending ≡ Complete
+    → (s : Tree Token) → Derives codeOf expression (reading (m .expression) δ .tokens) s
+    → (v : Value) (n : ℕ) → evaluationIn m δ ≡ value v n → kindOf v ≡ fold (attributes m) s .kind
 value-has-its-kind = value-kind
 
 -- For an answered value, fewer operators were applied than the expression has tokens.
-pub count-below-tokens : (e t : List ℕ) (v : Value) (n : ℕ) → evaluation e t ≡ value v n → n < length (reading e .tokens)
+pub count-below-tokens : (m : Memory) (δ : Dialect) (v : Value) (n : ℕ) → evaluationIn m δ ≡ value v n → n < length (reading (m .expression) δ .tokens)
 count-below-tokens = counted
 
 -- An answered string has the bytes at its place, and the place is within the expression or the table.
-pub string-at-its-place : (e t : List ℕ) (v : Value) (n : ℕ) → evaluation e t ≡ value v n → InBounds e t v
+pub string-at-its-place : (m : Memory) (δ : Dialect) (v : Value) (n : ℕ) → evaluationIn m δ ≡ value v n → InBounds m v
 string-at-its-place = strings-in-bounds
 
 -- The answer to an expression has line 0, also if it is a refusal; so has the answer of a data field.
-pub expression-has-no-line : (e t : List ℕ) → lineOf (evaluation e t) ≡ 0
+pub expression-has-no-line : (m : Memory) (δ : Dialect) → lineOf (evaluation m δ) ≡ 0
 expression-has-no-line = without-line
 
-pub field-has-no-line : (e t : List ℕ) (datum : ℕ) (buffer : List ℕ) → lineOfField (fieldOf e t datum buffer .answer) ≡ 0
+pub field-has-no-line : (m : Memory) (datum : ℕ) (buffer : List ℕ) (δ : Dialect) → lineOfField (fieldOf m datum buffer δ .answer) ≡ 0
 field-has-no-line = field-without-line
 
 -- THE SELECTION OF LINES, by the blocks of a file
@@ -106,60 +112,60 @@ pub one-list-of-blocks : (ls : List (List ℕ)) (a b : Blocks) → DerivesBlocks
 one-list-of-blocks = blocks-unambiguous
 
 -- Sound: the lines of an accepted selection derive blocks within the limits, and its marks and count are the meaning of the blocks.
-pub selection-sound : (f t : List ℕ) (room : ℕ) (ms : List ℕ) (c : ℕ) → selection f t room ≡ accepted ms c
-    → (bs : Blocks) × DerivesBlocks (lines f) bs × (depth bs ≤ 16) × WithinLimit (lines f) × (meaning t true bs ≡ means ms c)
+pub selection-sound : (f t : List ℕ) (δ : Dialect) (room : ℕ) (ms : List ℕ) (c : ℕ) → selection f t room δ ≡ accepted ms c
+    → (bs : Blocks) × DerivesBlocks (lines f) bs × (depth bs ≤ 16) × WithinLimit (lines f) × (meaning t true bs δ ≡ means ms c)
 selection-sound = sound
 
 -- Complete: if nothing is refused before the first line (1, 14, 15, 16) and the lines derive blocks within the limits, the selection is the
 -- meaning of the blocks, a fault with its line included.
-pub selection-complete : (f t : List ℕ) (room : ℕ) (bs : Blocks)
+pub selection-complete : (f t : List ℕ) (δ : Dialect) (room : ℕ) (bs : Blocks)
     → wellFormed t ≡ true → length f ≤ 65536 → length (lines f) ≤ 4096 → length (lines f) ≤ room
-    → DerivesBlocks (lines f) bs → depth bs ≤ 16 → WithinLimit (lines f) → selection f t room ≡ resultOf (meaning t true bs)
+    → DerivesBlocks (lines f) bs → depth bs ≤ 16 → WithinLimit (lines f) → selection f t room δ ≡ resultOf (meaning t true bs δ)
 selection-complete = complete
 
 -- The same for the run over lines that a selection makes after its first checks.
-pub run-is-complete : (t : List ℕ) (ls : List (List ℕ)) (bs : Blocks) → DerivesBlocks ls bs → depth bs ≤ 16 → WithinLimit ls
-    → run t 1 start ls ≡ resultOf (meaning t true bs)
+pub run-is-complete : (t : List ℕ) (δ : Dialect) (ls : List (List ℕ)) (bs : Blocks) → DerivesBlocks ls bs → depth bs ≤ 16 → WithinLimit ls
+    → run t 1 start ls δ ≡ resultOf (meaning t true bs δ)
 run-is-complete = run-complete
 
 -- An accepted selection has one mark per line.
-pub one-mark-per-line : (f t : List ℕ) (room : ℕ) (ms : List ℕ) (c : ℕ) → selection f t room ≡ accepted ms c → length ms ≡ length (lines f)
+pub one-mark-per-line : (f t : List ℕ) (δ : Dialect) (room : ℕ) (ms : List ℕ) (c : ℕ) → selection f t room δ ≡ accepted ms c → length ms ≡ length (lines f)
 one-mark-per-line = marks-each-line
 
 -- In an accepted selection a line is a directive that is read, by the reading rule over blocks, exactly if its mark is 3, 4 or 5.
-pub marks-show-reading : (f t : List ℕ) (room : ℕ) (ms : List ℕ) (c : ℕ) → selection f t room ≡ accepted ms c
+pub marks-show-reading : (f t : List ℕ) (δ : Dialect) (room : ℕ) (ms : List ℕ) (c : ℕ) → selection f t room δ ≡ accepted ms c
     → (bs : Blocks) → DerivesBlocks (lines f) bs → (i : ℕ) → i < length (lines f)
-    → ((getD (readsOf t true bs) i false ≡ true) ↔ (3 ≤ getD ms i 0)) × (getD ms i 0 ≤ 5)
+    → ((getD (readsOf t true bs δ) i false ≡ true) ↔ (3 ≤ getD ms i 0)) × (getD ms i 0 ≤ 5)
 marks-show-reading = marks-tell-reading
 
 -- A run is refused with number r at line n exactly if line n is the first line with a reason to be refused, and r is the number of the
 -- reason; or if no line has a reason, r is 21, a group is open at the end, and line n is the innermost open `!if`.
-pub refused-exactly : (t : List ℕ) (ls : List (List ℕ)) (r n : ℕ)
-    → (run t 1 start ls ≡ refused r n) ↔ (RefusedAt t ls r n ⊎ ((r ≡ 21) × RefusedAtEnd t ls n))
+pub refused-exactly : (t : List ℕ) (δ : Dialect) (ls : List (List ℕ)) (r n : ℕ)
+    → (run t 1 start ls δ ≡ refused r n) ↔ (RefusedAt t ls r n δ ⊎ ((r ≡ 21) × RefusedAtEnd t ls n δ))
 refused-exactly = refused-by-blocks
 
 -- No two reasons share a number: a fault in the text of a directive never has a number from 17 to 21.
-pub faults-have-other-numbers : (t : List ℕ) (bs : Blocks) (r i : ℕ) → meaning t true bs ≡ fault r i → 17 ≤ r → r ≤ 21 → ⊥
+pub faults-have-other-numbers : (t : List ℕ) (δ : Dialect) (bs : Blocks) (r i : ℕ) → meaning t true bs δ ≡ fault r i → 17 ≤ r → r ≤ 21 → ⊥
 faults-have-other-numbers = fault-numbers
 
 -- At most one line is the innermost open `!if`.
-pub innermost-is-one-line : (ls : List (List ℕ)) (m k : ℕ) → Innermost ls m → Innermost ls k → m ≡ k
+pub innermost-is-one-line : (ls : List (List ℕ)) (n k : ℕ) → Innermost ls n → Innermost ls k → n ≡ k
 innermost-is-one-line = one-innermost
 
 -- ISOLATION (demand 3)
 
 -- A second selection has the same marks and count as an accepted one if its file has as many lines, with the same words, the directives
 -- that the first one read have the same bytes, the tables have the same records under the names in these, the second table is well formed,
--- and the second file, its lines and its marks keep the limits of 14, 17 and 16.
-pub isolated : (f₁ t₁ : List ℕ) (room₁ : ℕ) (ms : List ℕ) (c : ℕ) → selection f₁ t₁ room₁ ≡ accepted ms c
-    → (f₂ t₂ : List ℕ) (room₂ : ℕ) → Comparable f₁ t₁ ms f₂ t₂ room₂ → selection f₂ t₂ room₂ ≡ accepted ms c
+-- and the second file, its lines and its marks keep the limits of 14, 17 and 16. Both are read in one dialect.
+pub isolated : (δ : Dialect) (f₁ t₁ : List ℕ) (room₁ : ℕ) (ms : List ℕ) (c : ℕ) → selection f₁ t₁ room₁ δ ≡ accepted ms c
+    → (f₂ t₂ : List ℕ) (room₂ : ℕ) → Comparable f₁ t₁ ms f₂ t₂ room₂ δ → selection f₂ t₂ room₂ δ ≡ accepted ms c
 isolated = isolation
 
 -- The same for two calls: `r` is the answer of a call, and `left` are the marks after it.
-pub isolated-calls : (f₁ t₁ marks₁ : List ℕ) (r₁ : Answer) (left₁ : List ℕ) → Selects f₁ t₁ marks₁ r₁ left₁
+pub isolated-calls : (δ : Dialect) (f₁ t₁ marks₁ : List ℕ) (r₁ : Answer) (left₁ : List ℕ) → Selects f₁ t₁ marks₁ r₁ left₁ δ
     → (n c : ℕ) → r₁ ≡ Accepted (record { 0 = n }) c
-    → (f₂ t₂ marks₂ : List ℕ) (r₂ : Answer) (left₂ : List ℕ) → Selects f₂ t₂ marks₂ r₂ left₂
-    → Comparable f₁ t₁ (take n left₁) f₂ t₂ (length marks₂)
+    → (f₂ t₂ marks₂ : List ℕ) (r₂ : Answer) (left₂ : List ℕ) → Selects f₂ t₂ marks₂ r₂ left₂ δ
+    → Comparable f₁ t₁ (take n left₁) f₂ t₂ (length marks₂) δ
     → (r₂ ≡ Accepted (record { 0 = n }) c) × (take n left₂ ≡ take n left₁)
 isolated-calls = two-calls
 

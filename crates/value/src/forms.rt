@@ -1,22 +1,23 @@
 // The attributes of an expression from those of its operands, form by form.
 use crate::Attributes;
-use crate::Place;
-use crate::Value;
 use crate::kinds;
 use crate::values;
+use lookup::Home;
+use lookup::Place;
 use lookup::Setting;
+use lookup::TextKind;
+use lookup::Value;
 use text::parts;
 use units::Offset;
 ghost use mathlib.Core.Path.{_≡_};
-ghost use mathlib.Core.Bool.{true, _||_};
+ghost use mathlib.Core.Bool.{true};
+ghost use Prim.Native.Nat.{_+_, _-_, _^_, _<_};
 ghost use Rattle.text.specs.Bytes.{pick};
-ghost use mathlib.Core.List.{List};
-ghost use Prim.Native.Nat.{ℕ, _+_, _-_, _^_, _<_};
-ghost use Rattle.settings.specs.Table.{wellFormed};
-ghost use Rattle.lookup.specs.Setting.{settingUnder};
-ghost use Rattle.value.specs.Values.{kindOf, nameIn, skips};
-ghost use Rattle.value.specs.Attributes.{primaryOf, unaryFrom, binaryFrom, firstArm, choiceFrom};
-ghost use Rattle.value.specs.Denote.{denoteValue, denoteAttributes, denoteToken};
+ghost use Rattle.settings.specs.Table.{ordered};
+ghost use Rattle.value.specs.Places.{Memory, over, inExpression};
+ghost use Rattle.value.specs.Values.{denoteValue, settingOf};
+ghost use Rattle.value.specs.Attributes.{valued, primaryOf, unaryFrom, binaryFrom, firstArm, choiceFrom};
+ghost use Rattle.value.specs.Denote.{denoteAttributes, denoteToken};
 
 // A token in the arrays of the scanner.
 pub struct Token {
@@ -49,9 +50,9 @@ fn size(k: Token) -> usize
 }
 
 // The setting under the name in a token.
-fn named(expr: &[u8], table: &[u8], k: Token) -> Setting
-    requires { ⌜ wellFormed (now table) ≡ true ⌝ }
-    ensures { λ r. ⌜ r ≡ settingUnder (now (table .entry)) (nameIn (now (expr .entry)) (denoteToken k)) ⌝ }
+pub fn named(expr: &[u8], table: &[u8], k: Token) -> Setting
+    requires { ⌜ ordered (now table) ≡ true ⌝ }
+    ensures { λ r. ⌜ r ≡ settingOf (over (now (expr .entry)) (now (table .entry))) (denoteToken k) ⌝ }
 {
     let from = place(k).0;
     let len = size(k);
@@ -67,71 +68,67 @@ fn named(expr: &[u8], table: &[u8], k: Token) -> Setting
 }
 
 // The attributes of a primary with this value.
-fn plain(value: Value, missing: bool) -> Attributes
-    ensures { λ r. ⌜ ((e t : List ℕ) → denoteAttributes e t r ≡ record { kind = kindOf (denoteValue e t value); value = denoteValue e t value; count = 0; missing = missing }) ⌝ }
+fn plain(value: Value) -> Attributes
+    ensures { λ r. ⌜ ((m : Memory) → denoteAttributes m r ≡ valued (denoteValue m value)) ⌝ }
 {
     let kind = kinds::kind_of(value);
     Attributes {
         kind,
         value,
         count: 0,
-        missing,
+    }
+}
+
+// The attributes of a name: those of its setting's value.
+fn of_name(expr: &[u8], table: &[u8], k: Token) -> Attributes
+    requires { ⌜ ordered (now table) ≡ true ⌝ }
+    ensures { λ r. ⌜ denoteAttributes (over (now (expr .entry)) (now (table .entry))) r ≡ valued (denoteValue (over (now (expr .entry)) (now (table .entry))) (settingOf (over (now (expr .entry)) (now (table .entry))) (denoteToken k) .value)) ⌝ }
+{
+    let s = named(expr, table, k);
+    let value = s.value;
+    plain(value)
+}
+
+// The place of a string in a token: after `before` bytes, with as many bytes fewer than the token as `around`.
+fn inner(k: Token, before: usize, around: usize) -> Place
+    requires { ⌜ before < 3 ⌝ }
+    ensures { λ r. ⌜ r ≡ inExpression (k .start + before) (k .len - around) ⌝ }
+{
+    let from = place(k).0;
+    Place {
+        home: Home::Expression,
+        start: Offset(from + before),
+        len: saturating_sub(size(k), around),
     }
 }
 
 // The attributes of a primary.
 pub fn of_primary(expr: &[u8], table: &[u8], k: Token) -> Attributes
-    requires { ⌜ wellFormed (now table) ≡ true ⌝ }
-    ensures { λ r. ⌜ denoteAttributes (now (expr .entry)) (now (table .entry)) r ≡ primaryOf (now (expr .entry)) (now (table .entry)) (denoteToken k) ⌝ }
+    requires { ⌜ ordered (now table) ≡ true ⌝ }
+    ensures { λ r. ⌜ denoteAttributes (over (now (expr .entry)) (now (table .entry))) r ≡ primaryOf (over (now (expr .entry)) (now (table .entry))) (denoteToken k) ⌝ }
 {
     let code = k.code;
     match code {
-        codes::STRING => {
-            let from = place(k).0;
-            let len = saturating_sub(size(k), 2);
-            plain(
-                Value::String(Place {
-                    tabled: false,
-                    start: Offset(from + 1),
-                    len,
-                }),
-                false,
-            )
-        }
-        codes::WIDE => {
-            let from = place(k).0;
-            let len = saturating_sub(size(k), 3);
-            plain(
-                Value::Wide(Place {
-                    tabled: false,
-                    start: Offset(from + 2),
-                    len,
-                }),
-                false,
-            )
-        }
-        codes::MACRO => plain(values::setting(named(expr, table, k)), false),
-        codes::PCD => {
-            let s = named(expr, table, k);
-            plain(values::setting(s), values::is_missing(s))
-        }
-        _ => plain(Value::Number(k.value), false),
+        codes::STRING => plain(Value::Text(TextKind::String, inner(k, 1, 2))),
+        codes::WIDE => plain(Value::Text(TextKind::Wide, inner(k, 2, 3))),
+        codes::MACRO => of_name(expr, table, k),
+        codes::PCD => of_name(expr, table, k),
+        _ => plain(Value::Number(k.value)),
     }
 }
 
-pub fn of_unary(o: u8, a: Attributes) -> Attributes
+pub fn of_unary(o: Token, a: Attributes) -> Attributes
     requires { ⌜ a .count + 1 < 2 ^ 64 ⌝ }
-    ensures { λ r. ⌜ ((e t : List ℕ) → denoteAttributes e t r ≡ unaryFrom o (denoteAttributes e t a)) ⌝ }
+    ensures { λ r. ⌜ ((m : Memory) → denoteAttributes m r ≡ unaryFrom (denoteToken o) (denoteAttributes m a)) ⌝ }
 {
     let k = a.kind;
     let v = a.value;
     let kind = kinds::of_unary(k);
-    let value = values::unary(o, v);
+    let value = values::unary(o.code, v);
     Attributes {
         kind,
         value,
         count: a.count + 1,
-        missing: a.missing,
     }
 }
 
@@ -142,45 +139,38 @@ fn unless(skip: bool, n: usize) -> usize
     if skip { 0 } else { n }
 }
 
-fn either(a: bool, b: bool) -> bool
-    ensures { λ r. ⌜ r ≡ (a || b) ⌝ }
-{
-    if a { true } else { b }
-}
-
 pub fn of_binary<'a>(
     expr: &'a [u8],
     table: &'a [u8],
-    o: u8,
+    o: Token,
     a: Attributes,
     b: Attributes,
 ) -> Attributes
     requires { ⌜ a .count + b .count + 1 < 2 ^ 64 ⌝ }
-    ensures { λ r. ⌜ denoteAttributes (now (expr .entry)) (now (table .entry)) r ≡ binaryFrom o (denoteAttributes (now (expr .entry)) (now (table .entry)) a) (denoteAttributes (now (expr .entry)) (now (table .entry)) b) ⌝ }
+    ensures { λ r. ⌜ denoteAttributes (over (now (expr .entry)) (now (table .entry))) r ≡ binaryFrom (denoteToken o) (denoteAttributes (over (now (expr .entry)) (now (table .entry))) a) (denoteAttributes (over (now (expr .entry)) (now (table .entry))) b) ⌝ }
 {
+    let code = o.code;
     let j = a.kind;
     let k = b.kind;
     let v = a.value;
     let w = b.value;
-    let kind = kinds::of_binary(o, j, k);
-    let value = values::binary(expr, table, o, v, w);
-    let right = unless(values::skips(o, v), b.count);
+    let kind = kinds::of_binary(code, j, k);
+    let value = values::binary(expr, table, code, v, w);
+    let right = unless(values::skips(code, v), b.count);
     Attributes {
         kind,
         value,
         count: a.count + right + 1,
-        missing: either(a.missing, b.missing),
     }
 }
 
 // Whether a choice takes its first arm.
 fn first_arm(v: Value) -> bool
-    ensures { λ r. ⌜ ((e t : List ℕ) → r ≡ firstArm (denoteValue e t v)) ⌝ }
+    ensures { λ r. ⌜ ((m : Memory) → r ≡ firstArm (denoteValue m v)) ⌝ }
 {
     match v {
         Value::Number(x) => x != 0,
-        Value::String(_) => false,
-        Value::Wide(_) => false,
+        Value::Text(_, _) => false,
         Value::Fault(_) => false,
     }
 }
@@ -191,9 +181,10 @@ fn chosen(first: bool, n: usize, m: usize) -> usize
     if first { n } else { m }
 }
 
-pub fn of_choice(c: Attributes, a: Attributes, b: Attributes) -> Attributes
+// `o` is the token of the `?`.
+pub fn of_choice(o: Token, c: Attributes, a: Attributes, b: Attributes) -> Attributes
     requires { ⌜ c .count + a .count + b .count + 1 < 2 ^ 64 ⌝ }
-    ensures { λ r. ⌜ ((e t : List ℕ) → denoteAttributes e t r ≡ choiceFrom (denoteAttributes e t c) (denoteAttributes e t a) (denoteAttributes e t b)) ⌝ }
+    ensures { λ r. ⌜ ((m : Memory) → denoteAttributes m r ≡ choiceFrom (denoteToken o) (denoteAttributes m c) (denoteAttributes m a) (denoteAttributes m b)) ⌝ }
 {
     let i = c.kind;
     let j = a.kind;
@@ -208,6 +199,5 @@ pub fn of_choice(c: Attributes, a: Attributes, b: Attributes) -> Attributes
         kind,
         value,
         count: c.count + arm + 1,
-        missing: either(c.missing, either(a.missing, b.missing)),
     }
 }

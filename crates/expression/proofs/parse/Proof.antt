@@ -8,6 +8,7 @@ use borrow.Author.Needs.{needs}
 use Rattle.grammar.specs.Grammar.{expression}
 use Rattle.grammar.specs.Parse.{Result, got, find, Yields}
 use Rattle.syntax.specs.Order.{OrderTo}
+use Rattle.value.specs.Places.{over}
 use Rattle.value.specs.Attributes.{Attributes}
 use Rattle.value.specs.declared.Attributes.{Attributes as CodedAttributes}
 use Rattle.value.specs.Denote.{denoteAttributes}
@@ -21,8 +22,7 @@ use Rattle.expression.proofs.parse.Tie as tie
 abbrev input : tie.Start → Input
 input s =
     record {
-      e = s .args .expr .now;
-      t = s .args .table .now;
+      m = over (s .args .expr .now) (s .args .table .now);
       codes = s .args .codes .now;
       starts = s .args .starts .now;
       lens = s .args .lens .now;
@@ -34,7 +34,7 @@ input s =
 abbrev Parsing : tie.Start → Result Attributes → Type 0
 Parsing s r =
     let i = input s in
-    Yields codeOf (meaning (i .e) (i .t)) (tokenAt (i .codes) (i .starts) (i .lens) (i .values) (i .n)) (i .n) (find expression 0) r
+    Yields codeOf (meaning (i .m)) (tokenAt (i .codes) (i .starts) (i .lens) (i .values) (i .n)) (i .n) (find expression 0) r
 
 module _ (s : tie.Start) (most m j : ℕ) (o : List ℕ) (w : OrderTo (input s .codes) (input s .n) m j o) (room : m ≤ most + most) where
   -- an order can be folded with room for half its entries
@@ -45,7 +45,7 @@ module _ (s : tie.Start) (most m j : ℕ) (o : List ℕ) (w : OrderTo (input s .
       record { ready = s .pre; all = w .most; long = w .long; value = v .0; gives = v .1 }
 
   -- it leaves the result of the parser
-  folded : (z : CodedAttributes) → Folds (input s) most o m z → Parsing s (got (denoteAttributes (input s .e) (input s .t) z) j)
+  folded : (z : CodedAttributes) → Folds (input s) most o m z → Parsing s (got (denoteAttributes (input s .m) z) j)
   folded z f =
       let l = length-take-le m o (omega (arith, w .most, w .long)) in
       come (input s) most (s .pre .holding .few) (take m o) j (omega (arith, l, w .most)) (omega (arith, l)) (w .made) z f
@@ -64,10 +64,11 @@ slice-aggregate-fold c = search needs
 
 fold-requires : tie.Need-fold-requires
 fold-requires c κs =
+    let if1 = c .before .before .if1 in
     let order = c .before .before .before .before in
     let write = order .before .before .write-postfix in
     let start = order .before .before .before .before .before .before .before .before .before in
-    foldable start 16 _ _ (write .last .0) (rw (order .filled .given .1) at (write .ensures)) (omega (arith, c .before .before .if1 .taken))
+    foldable start 16 _ _ (write .last .0) (rw (order .filled .given .1) at (write .ensures)) (omega (arith, if1 .taken))
 
 returns : tie.Need-returns
 returns c =

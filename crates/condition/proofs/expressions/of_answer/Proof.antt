@@ -24,26 +24,26 @@ enum-told-2 c = search needs
 
 returns : tie.Need-returns
 unfolding ofAnswer
-returns c = λ e t. rw (c .before .a .given .1)
+returns c = λ m. rw (c .before .a .given .1)
 
 returns-2 : tie.Need-returns-2
 unfolding ofAnswer
 returns-2 c =
     let v = c .before .before .v in
     let a2 = c .before .before .before .before .before .a2 in
-    λ e t. rw (a2 .given .1, v .given .1) (c .of-number .ensures)
+    λ m. rw (a2 .given .1, v .given .1) (c .of-number .ensures)
 
 returns-3 : tie.Need-returns-3
 unfolding ofAnswer
 returns-3 c =
     let a2 = c .before .before .before .a2 in
-    λ e t. rw (a2 .given .1, c .enum-told .given .1)
+    λ m. rw (a2 .given .1, c .enum-told .given .1)
 
 returns-4 : tie.Need-returns-4
 unfolding ofAnswer
 returns-4 c =
     let a2 = c .before .before .before .a2 in
-    λ e t. rw (a2 .given .1, c .enum-told2 .given .1)
+    λ m. rw (a2 .given .1, c .enum-told2 .given .1)
 
 pub of-answer-spec : {M : Type 1} → statement M
 of-answer-spec =

@@ -1,7 +1,8 @@
--- The tests are those of the definition, in order; the setting under the name decides.
+-- The tests are those of the definition, in order; whether the name is set decides.
 use native.Mathlib.Omega.{arith}
-use mathlib.Core.Path.{sym, _∙_}
+use mathlib.Core.Path.{sym, ap, _∙_}
 use borrow.Author.Tests.{lt-ltb, not-true, not-false}
+use Rattle.lookup.specs.declared.Setting.{Setting}
 use Rattle.condition.specs.Conditions.{ofNamed}
 use borrow.Author.Needs.{needs}
 use Rattle.condition.proofs.macros.of_named.Statement.{statement}
@@ -26,25 +27,21 @@ part-requires c κs = search needs
 lookup-requires : tie.Need-lookup-requires
 lookup-requires c κs = search needs
 
-is-missing-requires : tie.Need-is-missing-requires
-is-missing-requires c κs = search needs
-
 decide-requires : tie.Need-decide-requires
 decide-requires c κs = search needs
 
 returns-3 : tie.Need-returns-3
 unfolding ofNamed
 returns-3 c =
-    let at-part = c .before .before .before in
-    let at-if2 = at-part .before .before in
-    let at-is-idle = at-if2 .before in
-    let s = c .before .before .before .before .before .before .before .before .before .before .before .before in
+    let part = c .before .before .part in
+    let if2 = c .before .before .before .before .if2 in
+    let is-idle = c .before .before .before .before .before .is-idle in
+    let s = c .before .before .before .before .before .before .before .before .before .before .before in
     c .decide .ensures ∙ rw (
       lt-ltb 0 (s .args .n .len) (omega arith),
-      sym (at-is-idle .is-idle .ensures) ∙ not-false _ (at-if2 .if2 .left),
-      c .before .is-missing .ensures,
-      c .before .before .lookup .ensures .right (s .pre),
-      at-part .part .ensures .bytes,
+      sym (is-idle .ensures) ∙ not-false _ (if2 .left),
+      ap (λ (x : Setting). x .found) (c .before .lookup .ensures .right (s .pre)),
+      part .ensures .bytes,
     )
 
 pub of-named-spec : {M : Type 1} → statement M
@@ -56,6 +53,5 @@ of-named-spec =
     returns-2
     part-requires
     lookup-requires
-    is-missing-requires
     decide-requires
     returns-3)

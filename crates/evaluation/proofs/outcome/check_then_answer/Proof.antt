@@ -7,13 +7,15 @@ refused-requires : tie.Need-refused-requires
 refused-requires c κs = search needs
 
 returns : tie.Need-returns
-returns c = λ e t. rw (c .before .if1 .taken) (c .refused .ensures e t)
+returns c = λ m. rw (c .before .if1 .taken) (c .refused .ensures m)
 
 refused-requires-2 : tie.Need-refused-requires-2
 refused-requires-2 c κs = search needs
 
 returns-2 : tie.Need-returns-2
-returns-2 c = λ e t. rw (c .before .before .if1 .left, c .before .if2 .taken) (c .refused2 .ensures e t)
+returns-2 c =
+    let if1 = c .before .before .if1 in
+    λ m. rw (if1 .left, c .before .if2 .taken) (c .refused2 .ensures m)
 
 clashes-requires : tie.Need-clashes-requires
 clashes-requires c κs = search needs
@@ -23,16 +25,20 @@ refused-requires-3 c κs = search needs
 
 returns-3 : tie.Need-returns-3
 returns-3 c =
-    let test = c .before .before .before in
-    λ e t. rw (test .before .if1 .left, test .if2 .left, ← c .before .before .clashes .ensures, c .before .if3 .taken) (c .refused3 .ensures e t)
+    let clashes = c .before .before .clashes in
+    let if2 = c .before .before .before .if2 in
+    let if1 = c .before .before .before .before .if1 in
+    λ m. rw (if1 .left, if2 .left, ← clashes .ensures, c .before .if3 .taken) (c .refused3 .ensures m)
 
 answer-value-requires : tie.Need-answer-value-requires
 answer-value-requires c κs = search needs
 
 returns-4 : tie.Need-returns-4
 returns-4 c =
-    let test = c .before .before .before in
-    λ e t. rw (test .before .if1 .left, test .if2 .left, ← c .before .before .clashes .ensures, c .before .if3 .left) (c .answer-value .ensures e t)
+    let clashes = c .before .before .clashes in
+    let if2 = c .before .before .before .if2 in
+    let if1 = c .before .before .before .before .if1 in
+    λ m. rw (if1 .left, if2 .left, ← clashes .ensures, c .before .if3 .left) (c .answer-value .ensures m)
 
 pub check-then-answer-spec : {M : Type 1} → statement M
 check-then-answer-spec =

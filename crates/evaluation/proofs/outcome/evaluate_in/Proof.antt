@@ -26,8 +26,9 @@ evaluate-with-room-requires c κs =
     let test = c .before .before .before .before in
     let start = test .before .before .before in
     let expr = start .args .expr .now in
-    let few : length (reading expr .tokens) ≤ 32 = omega (arith, tokens-of-bytes expr, test .if1 .taken) in
-    (start .pre, room-of expr 32 few (omega arith) (omega arith) (omega arith) (omega arith))
+    let δ = start .args .dialect in
+    let few : length (reading expr δ .tokens) ≤ 32 = omega (arith, tokens-of-bytes expr δ, test .if1 .taken) in
+    (start .pre, room-of expr δ 32 few (omega arith) (omega arith) (omega arith) (omega arith))
 
 returns : tie.Need-returns
 returns c =
@@ -49,7 +50,8 @@ evaluate-with-room-requires-2 : tie.Need-evaluate-with-room-requires-2
 evaluate-with-room-requires-2 c κs =
     let start = c .before .before .before .before .before .before .before in
     let expr = start .args .expr .now in
-    (start .pre, room-of expr 200 (most-tokens expr) (omega arith) (omega arith) (omega arith) (omega arith))
+    let δ = start .args .dialect in
+    (start .pre, room-of expr δ 200 (most-tokens expr δ) (omega arith) (omega arith) (omega arith) (omega arith))
 
 returns-2 : tie.Need-returns-2
 returns-2 c =

@@ -1,10 +1,14 @@
 -- The scan left the tokens in the arrays, so the answer to the arrays is the answer to the tokens.
 use mathlib.Core.Path.{sym, _∙_}
 use borrow.Author.Needs.{needs}
-use Rattle.evaluation.specs.Evaluation.{evaluation}
+use Rattle.value.specs.Places.{Memory, over}
+use Rattle.evaluation.specs.Evaluation.{evaluationIn}
 use Rattle.evaluation.proofs.Arrays.{holding, answers}
 use Rattle.evaluation.proofs.outcome.evaluate_with_room.Statement.{statement}
 use Rattle.evaluation.proofs.outcome.evaluate_with_room.Tie as tie
+
+abbrev memory : tie.Start → Memory
+memory s = over (s .args .expr .now) (s .args .table .now)
 
 tokens-requires : tie.Need-tokens-requires
 tokens-requires c κs =
@@ -25,8 +29,8 @@ answer-tokens-requires c κs =
     let start = scan .before .before .before .before .before .before .before .before .before .before in
     let learnt = scan .tokens .ensures in
     record {
-      well-formed = start .pre .0;
-      holding = holding (start .args .expr .now) (start .args .table .now) (start .pre .1) (learnt .tokens) _ (learnt .count);
+      in-order = start .pre .0;
+      holding = holding (memory start) (start .args .dialect) (start .pre .1) (learnt .tokens) _ (learnt .count);
     }
 
 same-length : tie.Need-same-length
@@ -42,11 +46,11 @@ same-length-3 c =
     search needs
 
 returns : tie.Need-returns
-unfolding evaluation
+unfolding evaluationIn
 returns c =
     let scan = c .before .before .before .before .before .before .before .before .before .before in
     let start = scan .before .before .before .before .before .before .before .before .before .before in
-    rw (start .pre .0, ← scan .tokens .ensures .ending, c .before .ending .given .1)
+    rw (← scan .tokens .ensures .ending, c .before .ending .given .1)
 
 same-length-4 : tie.Need-same-length-4
 same-length-4 c =
@@ -67,8 +71,7 @@ returns-2 c =
     let start = scan .before .before .before .before .before .before .before .before .before .before in
     let learnt = scan .tokens .ensures in
     let whole = sym (learnt .ending) ∙ told .enum-told .given .1 in
-    c .answer-tokens .ensures ∙ answers (start .args .expr .now) (start .args .table .now) (start .pre .1) (learnt .tokens) (start .pre .0)
-    _ (learnt .count) whole
+    c .answer-tokens .ensures ∙ answers (memory start) (start .args .dialect) (start .pre .1) (learnt .tokens) _ (learnt .count) whole
 
 pub evaluate-with-room-spec : {M : Type 1} → statement M
 evaluate-with-room-spec =

@@ -7,12 +7,12 @@ use mathlib.Core.Bool.{true, false}
 use mathlib.Core.List.{List}
 use lib.ListN.{length}
 use borrow.Author.Needs.{needs}
-use Rattle.value.specs.Denote.{denoteAttributes}
+use Rattle.token.specs.Tokens.{Token}
+use Rattle.value.specs.Places.{Memory, over}
+use Rattle.value.specs.Denote.{denoteAttributes, denoteToken}
 use Rattle.value.specs.Attributes.{primaryOf}
 use Rattle.grammar.specs.Grammar.{isPrimary}
-use Rattle.grammar.proofs.Inside.{primary-inside}
 use Rattle.syntax.specs.Order.{UNARY, FILLER}
-use Rattle.syntax.proofs.Orders.{ended}
 use Rattle.operands.proofs.Piles.{alone, instead}
 use Rattle.expression.specs.Postfix.{codeIn, Entry, operand, unary, binary, choice, filler, entryOf}
 use Rattle.expression.proofs.Entries.{Work, Rest, Next, begun, is-unary, is-operand, is-filler, is-choice, is-binary, opened, closed}
@@ -31,7 +31,7 @@ record Working (k : Work) (waiting : List (List ℕ)) (top p : ℕ) : Type 0 whe
 abbrev Inv-loop : tie.InvT-loop
 Inv-loop waiting₀ expr table codes starts lens values n order filled top₀ p₀ waiting top p =
     Working (record {
-      i = record { e = expr; t = table; codes = codes; starts = starts; lens = lens; values = values; n = n .0 };
+      i = record { m = over expr table; codes = codes; starts = starts; lens = lens; values = values; n = n .0 };
       most = length waiting₀;
       order = order;
       filled = filled;
@@ -40,12 +40,14 @@ Inv-loop waiting₀ expr table codes starts lens values n order filled top₀ p�
 abbrev μ-loop : tie.MeasureT-loop
 μ-loop waiting₀ expr table codes starts lens values n order filled top₀ p₀ waiting top p = filled - p
 
+abbrev memory : tie.Start Inv-loop μ-loop → Memory
+memory s = over (s .args .expr .now) (s .args .table .now)
+
 abbrev work : tie.Start Inv-loop μ-loop → Work
 work s =
     record {
       i = record {
-        e = s .args .expr .now;
-        t = s .args .table .now;
+        m = memory s;
         codes = s .args .codes .now;
         starts = s .args .starts .now;
         lens = s .args .lens .now;
@@ -86,10 +88,14 @@ is y entry e =
 
 -- whether its token is a primary
 primary : (c : tie.Then2 Inv-loop μ-loop) → isPrimary (code (c .before .before .before .before)) ≡ true
-primary c = ap isPrimary (sym (c .before .before .code-at2 .ensures)) ∙ sym (c .before .is-primary .ensures) ∙ c .if2 .taken
+primary c =
+    let token-at2 = c .before .before .token-at2 in
+    ap (λ (k : Token). isPrimary (k .code)) (sym (token-at2 .ensures)) ∙ sym (c .before .is-primary .ensures) ∙ c .if2 .taken
 
 no-primary : (c : tie.Else2 Inv-loop μ-loop) → isPrimary (code (c .before .before .before .before)) ≡ false
-no-primary c = ap isPrimary (sym (c .before .before .code-at2 .ensures)) ∙ sym (c .before .is-primary .ensures) ∙ c .if2 .left
+no-primary c =
+    let token-at2 = c .before .before .token-at2 in
+    ap (λ (k : Token). isPrimary (k .code)) (sym (token-at2 .ensures)) ∙ sym (c .before .is-primary .ensures) ∙ c .if2 .left
 
 -- it is no unary operator
 no-unary : (c : tie.Else1 Inv-loop μ-loop) → number (c .before) < UNARY
@@ -109,14 +115,15 @@ found-unary c =
 
 found-operand : (c : tie.Then2 Inv-loop μ-loop) → Is operand (c .before .before .before .before)
 found-operand c =
+    let start = c .before .before .before in
     let entry = c .before .before .before .before in
-    is operand entry (is-operand (work (start-of entry) .i) (number entry) (no-unary (c .before .before .before)) (primary c))
+    is operand entry (is-operand (work (start-of entry) .i) (number entry) (no-unary start) (primary c))
 
 found-choice : (c : tie.Then4 Inv-loop μ-loop) → Is choice (c .before .before .before .before .before .before)
 found-choice c =
     let entry = c .before .before .before .before .before .before in
     let read = c .before .before .before .before in
-    let question = sym (read .code-at2 .ensures) ∙ c .if4 .taken in
+    let question = sym (ap (λ (k : Token). k .code) (read .token-at2 .ensures)) ∙ c .if4 .taken in
     is choice entry
     (is-choice (work (start-of entry) .i) (number entry) (no-unary (read .before)) (no-primary (c .before .before)) (no-filler (c .before)) question)
 
@@ -126,13 +133,14 @@ found-binary c =
     let read = c .before .before .before .before in
     is binary entry
     (is-binary (work (start-of entry) .i) (number entry) (no-unary (read .before)) (no-primary (c .before .before)) (no-filler (c .before))
-    (λ q. c .if4 .left (read .code-at2 .ensures ∙ q)))
+    (λ q. c .if4 .left (ap (λ (k : Token). k .code) (read .token-at2 .ensures) ∙ q)))
 
 found-filler : (c : tie.Else3 Inv-loop μ-loop) → Is filler (c .before .before .before .before .before)
 found-filler c =
+    let start = c .before .before .before .before in
     let entry = c .before .before .before .before .before in
     is filler entry
-    (is-filler (work (start-of entry) .i) (number entry) (no-unary (c .before .before .before .before)) (no-primary (c .before))
+    (is-filler (work (start-of entry) .i) (number entry) (no-unary start) (no-primary (c .before))
     (entry .entry-number .ensures ∙ c .if3 .left))
 
 loop-holds : tie.Need-loop-holds Inv-loop μ-loop
@@ -158,10 +166,10 @@ add-p entry =
     let start = start-of entry in
     omega (arith, start .pre .all, entry .before .before .loop-test .taken)
 
-code-at-requires : tie.Need-code-at-requires Inv-loop μ-loop
-code-at-requires c κs =
+token-at-requires : tie.Need-token-at-requires Inv-loop μ-loop
+token-at-requires c κs =
     let start = start-of (c .before) in
-    start .pre .ready .holding .few
+    start .pre .ready .holding
 
 sub-unary : tie.Need-sub-unary Inv-loop μ-loop
 sub-unary c =
@@ -190,62 +198,56 @@ loop-again c =
     let entry = here .before in
     let start = start-of entry in
     let inv = entry .before .before .before .loop .inv in
-    let code = call .before .before .code-at in
-    let left = call .unary .ensures (start .args .expr .now) (start .args .table .now) in
+    let token = call .before .before .token-at in
+    let left = call .unary .ensures (memory start) in
     record {
       entries = omega (arith, entry .before .before .loop-test .taken);
       room = inv .room;
       long = left .long ∙ inv .long;
-      rest = unary-on _ (code .result) (code .ensures) (found-unary here) left;
+      rest = unary-on _ (denoteToken (token .result)) (token .ensures) (found-unary here) left;
     }
 
-code-at-requires-2 : tie.Need-code-at-requires-2 Inv-loop μ-loop
-code-at-requires-2 c κs =
+token-at-requires-2 : tie.Need-token-at-requires-2 Inv-loop μ-loop
+token-at-requires-2 c κs =
     let start = start-of (c .before) in
-    start .pre .ready .holding .few
+    start .pre .ready .holding
 
 is-primary-requires : tie.Need-is-primary-requires Inv-loop μ-loop
 is-primary-requires c κs = search needs
 
-token-at-requires : tie.Need-token-at-requires Inv-loop μ-loop
-token-at-requires c κs =
-    let entry = c .before .before .before .before in
-    let start = start-of entry in
-    (start .pre .ready .holding, primary-inside (ended (start .args .codes .now) (start .args .n .0)) (number entry) (primary c))
-
 of-primary-requires : tie.Need-of-primary-requires Inv-loop μ-loop
 of-primary-requires c κs =
-    let start = start-of (c .before .before .before .before .before .before) in
-    start .pre .ready .well-formed
+    let start = start-of (c .before .before .before .before .before) in
+    start .pre .ready .in-order
 
 store-requires : tie.Need-store-requires Inv-loop μ-loop
 store-requires c κs =
-    let here = c .before .before .before in
+    let here = c .before .before in
     let entry = here .before .before .before .before in
     let start = start-of entry in
     omega (arith, operand-room (found-operand here) (start .pre .value) (start .pre .gives), entry .before .before .before .loop .inv .long)
 
 add-top : tie.Need-add-top Inv-loop μ-loop
 add-top c =
-    let here = c .before .before .before .before .before in
+    let here = c .before .before .before .before in
     let start = start-of (here .before .before .before .before) in
     omega (arith, operand-room (found-operand here) (start .pre .value) (start .pre .gives))
 
 loop-less-2 : tie.Need-loop-less-2 Inv-loop μ-loop
 loop-less-2 c =
-    let entry = c .before .before .before .before .before .before .before .before .before in
+    let entry = c .before .before .before .before .before .before .before .before in
     omega (arith, entry .before .before .loop-test .taken)
 
 loop-again-2 : tie.Need-loop-again-2 Inv-loop μ-loop
 loop-again-2 c =
     let call = c .before in
-    let here = call .before .before .before .before in
+    let here = call .before .before .before in
     let entry = here .before .before .before .before in
     let start = start-of entry in
     let inv = entry .before .before .before .loop .inv in
-    let left = call .store .ensures (start .args .expr .now) (start .args .table .now) in
-    let token = call .before .before .before .token-at .ensures in
-    let made = call .before .of-primary .ensures ∙ ap (primaryOf (start .args .expr .now) (start .args .table .now)) token in
+    let left = call .store .ensures (memory start) in
+    let token = here .before .before .token-at2 .ensures in
+    let made = call .before .of-primary .ensures ∙ ap (primaryOf (memory start)) token in
     record {
       entries = omega (arith, entry .before .before .loop-test .taken);
       room = omega (arith, operand-room (found-operand here) (start .pre .value) (start .pre .gives));
@@ -286,12 +288,13 @@ loop-again-3 c =
     let entry = here .before .before .before .before .before .before in
     let start = start-of entry in
     let inv = entry .before .before .before .loop .inv in
-    let left = call .choice .ensures (start .args .expr .now) (start .args .table .now) in
+    let token = here .before .before .before .before .token-at2 in
+    let left = call .choice .ensures (memory start) in
     record {
       entries = omega (arith, entry .before .before .loop-test .taken);
       room = omega (arith, inv .room);
       long = left .long ∙ inv .long;
-      rest = choice-on _ (found-choice here) left;
+      rest = choice-on _ (denoteToken (token .result)) (found-choice here) left;
     }
 
 sub-binary : tie.Need-sub-binary Inv-loop μ-loop
@@ -326,13 +329,13 @@ loop-again-4 c =
     let here = call .before .before in
     let entry = here .before .before .before .before .before .before in
     let inv = entry .before .before .before .loop .inv in
-    let code = here .before .before .before .before .code-at2 in
+    let token = here .before .before .before .before .token-at2 in
     let left = call .binary .ensures in
     record {
       entries = omega (arith, entry .before .before .loop-test .taken);
       room = omega (arith, inv .room);
       long = left .long ∙ inv .long;
-      rest = binary-on _ (code .result) (code .ensures) (found-binary here) left;
+      rest = binary-on _ (denoteToken (token .result)) (token .ensures) (found-binary here) left;
     }
 
 loop-less-5 : tie.Need-loop-less-5 Inv-loop μ-loop
@@ -352,7 +355,7 @@ load-requires c κs =
     let start = c .before .before .before .before .before .before .before .before in
     let inv = loop .inv in
     let shape = closed (omega (arith, c .before .loop-test .left, inv .entries)) (inv .rest) (start .pre .value) (start .pre .gives) in
-    let one = alone (start .args .expr .now) (start .args .table .now) (loop .waiting) (loop .top) (start .pre .value) shape in
+    let one = alone (memory start) (loop .waiting) (loop .top) (start .pre .value) shape in
     omega (arith, one .0, inv .room, inv .long)
 
 same-length : tie.Need-same-length Inv-loop μ-loop
@@ -362,13 +365,14 @@ same-length c =
 
 returns : tie.Need-returns Inv-loop μ-loop
 returns c =
+    let loop-test = c .before .before .loop-test in
     let loop = c .before .before .before .loop in
     let start = c .before .before .before .before .before .before .before .before .before in
     let inv = loop .inv in
     λ v g.
-    let shape = closed (omega (arith, c .before .before .loop-test .left, inv .entries)) (inv .rest) v g in
-    let one = alone (start .args .expr .now) (start .args .table .now) (loop .waiting) (loop .top) v shape in
-    ap (denoteAttributes (start .args .expr .now) (start .args .table .now)) (c .load .ensures) ∙ one .1
+    let shape = closed (omega (arith, loop-test .left, inv .entries)) (inv .rest) v g in
+    let one = alone (memory start) (loop .waiting) (loop .top) v shape in
+    ap (denoteAttributes (memory start)) (c .load .ensures) ∙ one .1
 
 pub fold-spec : {M : Type 1} → statement M
 fold-spec =
@@ -381,14 +385,13 @@ fold-spec =
     element-copy-out-e
     entry-number-requires
     add-p
-    code-at-requires
+    token-at-requires
     sub-unary
     unary-requires
     loop-less
     loop-again
-    code-at-requires-2
+    token-at-requires-2
     is-primary-requires
-    token-at-requires
     of-primary-requires
     store-requires
     add-top

@@ -1,4 +1,5 @@
 -- The answer is that of `evaluation`, and is stored as in the definition.
+use Rattle.value.specs.Places.{over}
 use borrow.Author.Needs.{needs}
 use Rattle.marshal.proofs.expressions.answer.Statement.{statement}
 use Rattle.marshal.proofs.expressions.answer.Tie as tie
@@ -22,9 +23,6 @@ returns : tie.Need-returns
 returns c =
     let r = c .before .before .before .r in
     let evaluate = c .before .before .before .before .before .evaluate in
-    let s = c .before .before .before .before .before .before .before .before in
-    let e = s .args .expr .now in
-    let t = s .args .table .now in
     let a = rw (r .given .1) at (evaluate .ensures) in
     record { refused-with = rw (← a); written = rw (← a) (c .show-number .ensures) }
 
@@ -33,10 +31,9 @@ returns-2 c =
     let v = c .before .before .before .v in
     let evaluate = c .before .before .before .before .before .evaluate in
     let s = c .before .before .before .before .before .before .before .before in
-    let e = s .args .expr .now in
-    let t = s .args .table .now in
+    let m = over (s .args .expr .now) (s .args .table .now) in
     let a = rw (v .given .1) at (evaluate .ensures) in
-    record { refused-with = rw (← a); written = rw (← a) (c .show-value .ensures e t) }
+    record { refused-with = rw (← a); written = rw (← a) (c .show-value .ensures m) }
 
 pub answer-spec : {M : Type 1} → statement M
 answer-spec =

@@ -3,8 +3,8 @@ use borrow.Author.Needs.{needs}
 use Rattle.marshal.proofs.expressions.show_string.Statement.{statement}
 use Rattle.marshal.proofs.expressions.show_string.Tie as tie
 
-one-if-requires : tie.Need-one-if-requires
-one-if-requires c κs = search needs
+number-of-requires : tie.Need-number-of-requires
+number-of-requires c κs = search needs
 
 element-write-out : tie.Need-element-write-out
 element-write-out c = search needs
@@ -25,13 +25,13 @@ element-write-out-6 : tie.Need-element-write-out-6
 element-write-out-6 c = search needs
 
 returns : tie.Need-returns
-returns c = rw (c .one-if .ensures)
+returns c = rw (c .number-of .ensures)
 
 pub show-string-spec : {M : Type 1} → statement M
 show-string-spec =
     tie.close
     (tie.spec
-    one-if-requires
+    number-of-requires
     element-write-out
     element-write-out-2
     element-write-out-3

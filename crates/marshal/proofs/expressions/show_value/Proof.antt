@@ -24,17 +24,17 @@ show-string-requires-2 c κs = search needs
 returns : tie.Need-returns
 returns c =
     let v = c .before .before .before .v in
-    λ e t. rw (v .given .1) (c .show-number .ensures)
+    λ m. rw (v .given .1) (c .show-number .ensures)
 
 returns-2 : tie.Need-returns-2
 returns-2 c =
     let v2 = c .before .before .before .v2 in
-    λ e t. rw (v2 .given .1) (c .show-string .ensures)
+    λ m. rw (v2 .given .1) (c .show-string .ensures)
 
 returns-3 : tie.Need-returns-3
 returns-3 c =
     let v3 = c .before .before .before .v3 in
-    λ e t. rw (v3 .given .1) (c .show-string2 .ensures)
+    λ m. rw (v3 .given .1) (c .show-string2 .ensures)
 
 pub show-value-spec : {M : Type 1} → statement M
 show-value-spec =

@@ -10,14 +10,14 @@ select-requires c κs = search needs
 enum-known-lines : tie.Need-enum-known-lines
 enum-known-lines c = search needs
 
-show-run-requires : tie.Need-show-run-requires
-show-run-requires c κs = search needs
+store-requires : tie.Need-store-requires
+store-requires c κs = search needs
 
 enum-known-r : tie.Need-enum-known-r
 enum-known-r c = search needs
 
-show-run-requires-2 : tie.Need-show-run-requires-2
-show-run-requires-2 c κs = search needs
+store-requires-2 : tie.Need-store-requires-2
+store-requires-2 c κs = search needs
 
 same-length : tie.Need-same-length
 same-length c = search needs
@@ -28,7 +28,7 @@ returns c =
     let select = c .before .before .before .before .before .before .before .select in
     let w = select .ensures in
     let a = sym (lines .given .1) ∙ w .answer in
-    record { refused-with = rw (← a); shown = rw (← a) (c .show-run .ensures); marks-are = w .marks-are }
+    record { refused-with = rw (← a); shown = rw (← a) (c .store .ensures); marks-are = w .marks-are }
 
 same-length-2 : tie.Need-same-length-2
 same-length-2 c = search needs
@@ -39,7 +39,7 @@ returns-2 c =
     let select = c .before .before .before .before .before .before .before .before .select in
     let w = select .ensures in
     let a = sym (r .given .1) ∙ w .answer in
-    record { refused-with = rw (← a); shown = rw (← a) (c .show-run2 .ensures); marks-are = w .marks-are }
+    record { refused-with = rw (← a); shown = rw (← a) (c .store2 .ensures); marks-are = w .marks-are }
 
 pub mark-spec : {M : Type 1} → statement M
 mark-spec =
@@ -47,9 +47,9 @@ mark-spec =
     (tie.spec
     select-requires
     enum-known-lines
-    show-run-requires
+    store-requires
     enum-known-r
-    show-run-requires-2
+    store-requires-2
     same-length
     returns
     same-length-2

@@ -1,6 +1,7 @@
 -- The check of the table decides.
 use mathlib.Core.Path.{sym, _∙_}
 use borrow.Author.Tests.{not-true, not-false}
+use Rattle.settings.proofs.Ordered.{in-order}
 use borrow.Author.Needs.{needs}
 use Rattle.marshal.proofs.tables.look_up.Statement.{statement}
 use Rattle.marshal.proofs.tables.look_up.Tie as tie
@@ -13,7 +14,9 @@ returns c = let w = sym (c .before .is-well-formed .ensures) ∙ not-true (c .be
     record { refused = rw w; written = rw w }
 
 show-requires : tie.Need-show-requires
-show-requires c κs = sym (c .before .before .is-well-formed .ensures) ∙ not-false (c .before .before .is-well-formed .result) (c .before .if1 .left)
+show-requires c κs =
+    let is-well-formed = c .before .before .is-well-formed in
+    in-order _ (sym (is-well-formed .ensures) ∙ not-false (is-well-formed .result) (c .before .if1 .left))
 
 returns-2 : tie.Need-returns-2
 returns-2 c =

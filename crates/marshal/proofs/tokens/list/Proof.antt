@@ -2,13 +2,14 @@
 use native.Mathlib.Omega.{arith}
 use borrow.Author.Needs.{needs}
 use Rattle.token.proofs.Reading.{most-tokens}
+use Rattle.units.specs.Dialects.{STRICT}
 use Rattle.marshal.proofs.tokens.list.Statement.{statement}
 use Rattle.marshal.proofs.tokens.list.Tie as tie
 
 tokens-requires : tie.Need-tokens-requires
 tokens-requires c κs =
     let start = c .before .before .before .before .before .args in
-    let most = most-tokens (start .expr .now) in
+    let most = most-tokens (start .expr .now) STRICT in
     record { codes-hold = omega (arith, most); starts-hold = omega (arith, most); lens-hold = omega (arith, most); values-hold = omega (arith, most) }
 
 number-of-requires : tie.Need-number-of-requires

@@ -24,11 +24,8 @@ kind-in-requires c κs = search needs
 value-in-requires : tie.Need-value-in-requires
 value-in-requires c κs = search needs
 
-array-read-t11-2 : tie.Need-array-read-t11-2
-array-read-t11-2 c = search needs
-
-array-read-t8 : tie.Need-array-read-t8
-array-read-t8 c = search needs
+array-read-t17-2 : tie.Need-array-read-t17-2
+array-read-t17-2 c = search needs
 
 returns : tie.Need-returns
 returns c = rw (c .value-in .ensures, c .before .kind-in .ensures)
@@ -44,6 +41,5 @@ decode-spec =
     array-read-kind-in-2
     kind-in-requires
     value-in-requires
-    array-read-t11-2
-    array-read-t8
+    array-read-t17-2
     returns)

@@ -9,23 +9,8 @@ shape-of-requires c κs = search needs
 number-of-kind-requires : tie.Need-number-of-kind-requires
 number-of-kind-requires c κs = search needs
 
-number-of-flag-requires : tie.Need-number-of-flag-requires
-number-of-flag-requires c κs = search needs
-
-number-of-flag-requires-2 : tie.Need-number-of-flag-requires-2
-number-of-flag-requires-2 c κs = search needs
-
 returns : tie.Need-returns
-returns c =
-    let kind = c .before .before in
-    rw (kind .number-of-kind .ensures, c .before .number-of-flag .ensures, ← kind .before .shape-of .ensures, c .number-of-flag2 .ensures)
+returns c = rw (c .number-of-kind .ensures, ← c .before .shape-of .ensures)
 
 pub encode-spec : {M : Type 1} → statement M
-encode-spec =
-    tie.close
-    (tie.spec
-    shape-of-requires
-    number-of-kind-requires
-    number-of-flag-requires
-    number-of-flag-requires-2
-    returns)
+encode-spec = tie.close (tie.spec shape-of-requires number-of-kind-requires returns)

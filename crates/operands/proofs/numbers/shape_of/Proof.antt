@@ -11,17 +11,11 @@ enum-known-v c = search needs
 enum-known-v-2 : tie.Need-enum-known-v-2
 enum-known-v-2 c = search needs
 
-shape-of-string-requires : tie.Need-shape-of-string-requires
-shape-of-string-requires c κs = search needs
+shape-of-text-requires : tie.Need-shape-of-text-requires
+shape-of-text-requires c κs = search needs
 
 enum-known-v-3 : tie.Need-enum-known-v-3
 enum-known-v-3 c = search needs
-
-shape-of-string-requires-2 : tie.Need-shape-of-string-requires-2
-shape-of-string-requires-2 c κs = search needs
-
-enum-known-v-4 : tie.Need-enum-known-v-4
-enum-known-v-4 c = search needs
 
 cast-t8 : tie.Need-cast-t8
 cast-t8 c = search needs
@@ -30,13 +24,12 @@ returns : tie.Need-returns
 returns c = rw (c .before .v .given .1)
 
 returns-2 : tie.Need-returns-2
-returns-2 c = rw (c .shape-of-string .ensures, c .before .before .v2 .given .1)
+returns-2 c =
+    let v2 = c .before .before .v2 in
+    rw (c .shape-of-text .ensures, v2 .given .1)
 
 returns-3 : tie.Need-returns-3
-returns-3 c = rw (c .shape-of-string2 .ensures, c .before .before .v3 .given .1)
-
-returns-4 : tie.Need-returns-4
-returns-4 c = rw (lt-ltb (c .before .v4 .given .0 .0) 256 (omega arith), c .before .v4 .given .1)
+returns-3 c = rw (lt-ltb (c .before .v3 .given .0 .0) 256 (omega arith), c .before .v3 .given .1)
 
 pub shape-of-spec : {M : Type 1} → statement M
 shape-of-spec =
@@ -44,12 +37,9 @@ shape-of-spec =
     (tie.spec
     enum-known-v
     enum-known-v-2
-    shape-of-string-requires
+    shape-of-text-requires
     enum-known-v-3
-    shape-of-string-requires-2
-    enum-known-v-4
     cast-t8
     returns
     returns-2
-    returns-3
-    returns-4)
+    returns-3)

@@ -4,6 +4,9 @@ use borrow.Author.Needs.{needs}
 use Rattle.operands.proofs.numbers.value_in.Statement.{statement}
 use Rattle.operands.proofs.numbers.value_in.Tie as tie
 
+home-in-requires : tie.Need-home-in-requires
+home-in-requires c κs = search needs
+
 fault-in-requires : tie.Need-fault-in-requires
 fault-in-requires c κs = search needs
 
@@ -11,10 +14,10 @@ returns : tie.Need-returns
 returns c = rw (c .match .keys1)
 
 returns-2 : tie.Need-returns-2
-returns-2 c = rw (c .match .keys2)
+returns-2 c = rw (c .before .home-in .ensures, c .match .keys2)
 
 returns-3 : tie.Need-returns-3
-returns-3 c = rw (c .match .keys3)
+returns-3 c = rw (c .before .home-in .ensures, c .match .keys3)
 
 returns-4 : tie.Need-returns-4
 returns-4 c =
@@ -22,4 +25,5 @@ returns-4 c =
     rw (c .fault-in .ensures, ne-eqb _ _ (rest .0 .0 .1), ne-eqb _ _ (rest .0 .1), ne-eqb _ _ (rest .1))
 
 pub value-in-spec : {M : Type 1} → statement M
-value-in-spec = tie.close (tie.spec fault-in-requires returns returns-2 returns-3 returns-4)
+value-in-spec =
+    tie.close (tie.spec home-in-requires fault-in-requires returns returns-2 returns-3 returns-4)

@@ -1,7 +1,8 @@
 -- The operands are loaded, and the result of the operator is stored.
 use native.Mathlib.Omega.{arith}
 use mathlib.Core.Path.{ap, _∙_}
-use Rattle.value.specs.Denote.{denoteAttributes}
+use Rattle.value.specs.Places.{over}
+use Rattle.value.specs.Denote.{denoteAttributes, denoteToken}
 use Rattle.value.specs.Attributes.{binaryFrom}
 use Rattle.operands.specs.Stack.{operandAt}
 use Rattle.operands.proofs.Piles.{instead}
@@ -38,12 +39,11 @@ returns c =
     let start = c .before .before .before .before .before .before .before .before .before .before in
     let first = load .ensures in
     let second = load2 .ensures in
-    let e = start .args .expr .now in
-    let t = start .args .table .now in
-    let o = start .args .o in
-    let left = ap (λ a. binaryFrom o (denoteAttributes e t a) (denoteAttributes e t (load2 .result))) first in
-    let right = ap (λ b. binaryFrom o (operandAt e t (start .args .waiting .now) (start .args .at)) (denoteAttributes e t b)) second in
-    instead (of-binary .ensures ∙ left ∙ right) (c .before .store .ensures e t)
+    let m = over (start .args .expr .now) (start .args .table .now) in
+    let o = denoteToken (start .args .o) in
+    let left = ap (λ a. binaryFrom o (denoteAttributes m a) (denoteAttributes m (load2 .result))) first in
+    let right = ap (λ b. binaryFrom o (operandAt m (start .args .waiting .now) (start .args .at)) (denoteAttributes m b)) second in
+    instead (of-binary .ensures ∙ left ∙ right) (c .before .store .ensures m)
 
 pub binary-spec : {M : Type 1} → statement M
 binary-spec =

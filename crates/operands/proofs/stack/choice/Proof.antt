@@ -1,7 +1,7 @@
 -- The operands are loaded, and the result of the operator is stored.
 use native.Mathlib.Omega.{arith}
 use mathlib.Core.Path.{ap, _∙_}
-use Rattle.value.specs.Denote.{denoteAttributes}
+use Rattle.value.specs.Denote.{denoteAttributes, denoteToken}
 use Rattle.value.specs.Attributes.{choiceFrom}
 use Prim.Native.Nat.{_+_}
 use Rattle.operands.specs.Stack.{operandAt}
@@ -42,18 +42,19 @@ same-length c = search needs
 returns : tie.Need-returns
 returns c =
     let of-choice = c .before .before .of-choice in
-    λ e t.
+    λ m.
     let start = c .before .before .before .before .before .before .before .before .before .before in
+    let o = denoteToken (start .args .o) in
     let test = c .before .before .before .before .before .before .before .before .load in
     let first = c .before .before .before .before .before .before .load2 in
     let second = c .before .before .before .before .load3 in
-    let test-at = operandAt e t (start .args .waiting .now) (start .args .at) in
-    let first-at = operandAt e t (start .args .waiting .now) (start .args .at + 1) in
-    let by-test = ap (λ x. choiceFrom (denoteAttributes e t x) (denoteAttributes e t (first .result))
-    (denoteAttributes e t (second .result))) (test .ensures) in
-    let by-first = ap (λ x. choiceFrom test-at (denoteAttributes e t x) (denoteAttributes e t (second .result))) (first .ensures) in
-    let by-second = ap (λ x. choiceFrom test-at first-at (denoteAttributes e t x)) (second .ensures) in
-    instead (of-choice .ensures e t ∙ by-test ∙ by-first ∙ by-second) (c .before .store .ensures e t)
+    let test-at = operandAt m (start .args .waiting .now) (start .args .at) in
+    let first-at = operandAt m (start .args .waiting .now) (start .args .at + 1) in
+    let by-test = ap (λ x. choiceFrom o (denoteAttributes m x) (denoteAttributes m (first .result))
+    (denoteAttributes m (second .result))) (test .ensures) in
+    let by-first = ap (λ x. choiceFrom o test-at (denoteAttributes m x) (denoteAttributes m (second .result))) (first .ensures) in
+    let by-second = ap (λ x. choiceFrom o test-at first-at (denoteAttributes m x)) (second .ensures) in
+    instead (of-choice .ensures m ∙ by-test ∙ by-first ∙ by-second) (c .before .store .ensures m)
 
 pub choice-spec : {M : Type 1} → statement M
 choice-spec =

@@ -19,7 +19,7 @@ same-length c = search needs
 returns : tie.Need-returns
 returns c =
     let start = c .before in
-    λ e t. stored e t (start .args .waiting .now) (start .args .at) (c .encode .result) (start .args .a) (c .encode .ensures) (start .pre)
+    λ m. stored m (start .args .waiting .now) (start .args .at) (c .encode .result) (start .args .a) (c .encode .ensures) (start .pre)
 
 pub store-spec : {M : Type 1} → statement M
 store-spec = tie.close (tie.spec encode-requires mul-t5 slice-set-from-waiting same-length returns)

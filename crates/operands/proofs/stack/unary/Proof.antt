@@ -1,7 +1,7 @@
 -- The operand is loaded, and the result of the operator is stored.
 use native.Mathlib.Omega.{arith}
 use mathlib.Core.Path.{ap, _∙_}
-use Rattle.value.specs.Denote.{denoteAttributes}
+use Rattle.value.specs.Denote.{denoteAttributes, denoteToken}
 use Rattle.value.specs.Attributes.{unaryFrom}
 use Rattle.operands.proofs.Piles.{instead}
 use borrow.Author.Needs.{needs}
@@ -28,8 +28,8 @@ returns c =
     let load = c .before .before .before .before .load in
     let start = c .before .before .before .before .before .before .args in
     let taken = load .ensures in
-    let o = start .o in
-    λ e t. instead (of-unary .ensures e t ∙ ap (λ a. unaryFrom o (denoteAttributes e t a)) taken) (c .before .store .ensures e t)
+    let o = denoteToken (start .o) in
+    λ m. instead (of-unary .ensures m ∙ ap (λ a. unaryFrom o (denoteAttributes m a)) taken) (c .before .store .ensures m)
 
 pub unary-spec : {M : Type 1} → statement M
 unary-spec =

@@ -6,7 +6,7 @@ use Rattle.select.proofs.run.finish.Statement.{statement}
 use Rattle.select.proofs.run.finish.Tie as tie
 
 returns : tie.Need-returns
-returns c = λ s r. no-group (c .before .args .t1) s r (c .before .args .n .0) (c .if1 .taken)
+returns c = let x = c .before .args .t1 in no-group (c .before .args .n .0) (x .count) (x .states) (x .lines) (x .depth) (c .if1 .taken)
 
 sub-last : tie.Need-sub-last
 sub-last c = search needs
@@ -24,9 +24,11 @@ refused-requires : tie.Need-refused-requires
 refused-requires c κs = search needs
 
 returns-2 : tie.Need-returns-2
-returns-2 c = λ s r.
+returns-2 c =
+    let if1 = c .before .before .if1 in
     let a = c .before .before .before .args in
-    c .refused .ensures ∙ top-line (a .t1) s r (a .n .0) (c .before .before .if1 .left)
+    let x = a .t1 in
+    c .refused .ensures ∙ top-line (a .n .0) (x .count) (x .states) (x .lines) (x .depth) (if1 .left)
 
 pub finish-spec : {M : Type 1} → statement M
 finish-spec =

@@ -13,17 +13,17 @@ use Rattle.select.proofs.run.run.Statement.{statement}
 use Rattle.select.proofs.run.run.Tie as tie
 
 abbrev Inv-loop : tie.InvT-loop
-Inv-loop marks₀ file table x₀ mark₀ at₀ n₀ marks x mark at n =
-    Underway file table marks₀ x (at .0) (n .0) marks × (length marks ≡ length marks₀) × MarksPlain x mark
+Inv-loop marks₀ file table δ x₀ mark₀ at₀ n₀ marks x mark at n =
+    Underway file table δ marks₀ x (at .0) (n .0) marks × (length marks ≡ length marks₀) × MarksPlain x mark
 
 abbrev μ-loop : tie.MeasureT-loop
-μ-loop marks₀ file table x₀ mark₀ at₀ n₀ marks x mark at n = length file - at .0
+μ-loop marks₀ file table δ x₀ mark₀ at₀ n₀ marks x mark at n = length file - at .0
 
 fresh-requires : tie.Need-fresh-requires Inv-loop μ-loop
 fresh-requires c κs = search needs
 
 loop-holds : tie.Need-loop-holds Inv-loop μ-loop
-loop-holds c = (begun _ _ _ (c .fresh .result) (c .fresh .ensures), refl, start-kept (c .fresh .result) (c .fresh .ensures))
+loop-holds c = (begun _ _ _ _ (c .fresh .result) (c .fresh .ensures), refl, start-kept (c .fresh .result) (c .fresh .ensures))
 
 -- The next line.
 next-requires : tie.Need-next-requires Inv-loop μ-loop
@@ -86,7 +86,7 @@ step-requires c κs =
     let head = c .before .before .before in (
       start .pre .0,
       omega (arith, inside u (cut .next .ensures), start .pre .2),
-      omega (arith, u .represents .depth, u .represents .shallow),
+      u .shallow,
       few-counted u (start .pre .2),
       head .read-head .ensures,
     )
@@ -105,8 +105,8 @@ returns c =
     let cut = stepped .before .before .before .before .before .before .before in
     let loop = cut .before .before .before in
     let u = loop .loop .inv .0 in
-    let meets = stepped .step .ensures (u .reached) (u .represents) in
-    refused-run _ _ _ (loop .loop .marks) (c .refused .result) _ _
+    let meets = stepped .step .ensures in
+    refused-run _ _ _ _ (loop .loop .marks) (c .refused .result) _ _
     (stops u (cut .next .ensures) (stepped .step .result) meets (not-true _ (c .before .if3 .taken)))
     (c .refused .ensures)
 
@@ -118,15 +118,7 @@ slice-write-marks-2 c =
     omega (arith, inside (loop .loop .inv .0) (cut .next .ensures), start .pre .1, loop .loop .inv .1)
 
 plain-mark-requires : tie.Need-plain-mark-requires Inv-loop μ-loop
-plain-mark-requires c κs =
-    let stepped = c .before .before in
-    let cut = stepped .before .before .before .before .before .before .before in
-    let loop = cut .before .before .before in
-    let start = loop .before .before .before .before .before in
-    let u = loop .loop .inv .0 in
-    let meets = stepped .step .ensures (u .reached) (u .represents) in
-    let after = goes-on u (cut .next .ensures) (stepped .step .result) meets (start .pre .1) (not-false _ (c .before .if3 .left)) in
-    omega (arith, after .represents .depth, after .represents .shallow)
+plain-mark-requires c κs = search needs
 
 -- In both cases, the line after it.
 loop-less : tie.Need-loop-less Inv-loop μ-loop
@@ -153,7 +145,7 @@ loop-again c =
       now .inv .2,
     ))
     (λ stepped.
-    let meets = stepped .2 .ensures (u .reached) (u .represents) in
+    let meets = stepped .2 .ensures in
     rw (stepped .6, stepped .7, stepped .8) (
       goes-on u (cut .next .ensures) (stepped .2 .result) meets (start .pre .1) (not-false _ (stepped .3 .left)),
       length-set (now .marks) (now .n .0) (stepped .2 .result .mark) ∙ now .inv .1,
@@ -163,16 +155,20 @@ loop-again c =
 
 -- After the last line.
 finish-requires : tie.Need-finish-requires Inv-loop μ-loop
-finish-requires c κs = let u = c .before .before .loop .inv .0 in omega (arith, u .represents .depth, u .represents .shallow)
+finish-requires c κs =
+    let loop = c .before .before .loop in
+    loop .inv .0 .shallow
 
 same-length-2 : tie.Need-same-length-2 Inv-loop μ-loop
-same-length-2 c = let loop = c .before .before .before in loop .loop .inv .1
+same-length-2 c =
+    let loop = c .before .before .before .loop in
+    loop .inv .1
 
 returns-2 : tie.Need-returns-2 Inv-loop μ-loop
 returns-2 c =
     let loop = c .before .before .before in
     let u = loop .loop .inv .0 in
-    finished u (c .before .if1 .left) (c .finish .result) (c .finish .ensures (u .reached) (u .represents))
+    finished u (c .before .if1 .left) (c .finish .result) (c .finish .ensures)
 
 pub run-spec : {M : Type 1} → statement M
 run-spec =

@@ -1,4 +1,5 @@
 -- A refusal before any line, an accepted run, or a refused run.
+use Rattle.settings.proofs.Ordered.{in-order}
 use Rattle.select.proofs.SelectCorrect.{refused-before, accepted-run, refused-run}
 use borrow.Author.Needs.{needs}
 use Rattle.select.proofs.selection.select.Statement.{statement}
@@ -22,11 +23,15 @@ returns c =
     let if1 = c .before .before .before .before .before .if1 in
     let check-limits = c .before .before .before .before .before .before .check-limits in
     let start = c .before .before .before .before .before .before .before .before .before .before .args in
-    refused-before (start .file .now) (start .table .now) (start .marks .now) (c .refused .result) (check-limits .result)
-    (check-limits .ensures .refuses (if1 .taken)) (c .refused .ensures) (fill .last .0) (fill .ensures)
+    refused-before (start .file .now) (start .table .now) (start .dialect) (start .marks .now) (c .refused .result) (check-limits .result)
+    (check-limits .ensures (start .dialect) .refuses (if1 .taken)) (c .refused .ensures) (fill .last .0) (fill .ensures)
 
 run-requires : tie.Need-run-requires
-run-requires c κs = let q = c .before .before .check-limits .ensures .passes (c .before .if1 .left) in (q .well-formed, q .enough, q .few)
+run-requires c κs =
+    let check-limits = c .before .before .check-limits in
+    let start = c .before .before .before .before .before .before .args in
+    let q = check-limits .ensures (start .dialect) .passes (c .before .if1 .left) in
+    (in-order (start .table .now) (q .well-formed), q .enough, q .few)
 
 enum-told : tie.Need-enum-told
 enum-told c = search needs
@@ -46,7 +51,8 @@ returns-2 c =
     let if1 = c .before .before .before .before .before .before .if1 in
     let check-limits = c .before .before .before .before .before .before .before .check-limits in
     let start = c .before .before .before .before .before .before .before .before .before .before .before .args in
-    accepted-run (start .file .now) (start .table .now) (start .marks .now) (run .result) (check-limits .ensures .passes (if1 .left))
+    accepted-run (start .file .now) (start .table .now) (start .dialect) (start .marks .now) (run .result)
+    (check-limits .ensures (start .dialect) .passes (if1 .left))
     (run .last .0) (run .ensures) (c .enum-told .given .0 .0) (c .enum-told .given .0 .1 .0) (c .enum-told .given .1)
 
 same-length-3 : tie.Need-same-length-3
@@ -60,7 +66,8 @@ returns-3 c =
     let if1 = c .before .before .before .before .before .before .before .before .before .before .if1 in
     let check-limits = c .before .before .before .before .before .before .before .before .before .before .before .check-limits in
     let start = c .before .before .before .before .before .before .before .before .before .before .before .before .before .before .before .args in
-    refused-run (start .file .now) (start .table .now) (start .marks .now) (run .result) (check-limits .ensures .passes (if1 .left))
+    refused-run (start .file .now) (start .table .now) (start .dialect) (start .marks .now) (run .result)
+    (check-limits .ensures (start .dialect) .passes (if1 .left))
     (run .last .0) (run .ensures) (enum-told2 .given .0 .0) (enum-told2 .given .1) (fill2 .last .0) (fill2 .ensures) (run .kept .0)
 
 pub select-spec : {M : Type 1} → statement M

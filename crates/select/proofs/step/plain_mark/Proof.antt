@@ -1,22 +1,18 @@
--- The state of the innermost group decides.
-use mathlib.Core.Path.{sym, ap, _∙_}
-use Rattle.ruling.specs.States.{isActive}
+-- The flags of the innermost group decide.
+use mathlib.Core.Path.{ap, _∙_}
+use Rattle.groups.specs.Rules.{plainMark}
 use borrow.Author.Needs.{needs}
 use Rattle.select.proofs.step.plain_mark.Statement.{statement}
 use Rattle.select.proofs.step.plain_mark.Tie as tie
 
-group-state-requires : tie.Need-group-state-requires
-group-state-requires c κs = search needs
+innermost-requires : tie.Need-innermost-requires
+innermost-requires c κs = search needs
 
-is-active-requires : tie.Need-is-active-requires
-is-active-requires c κs = search needs
+plain-mark-requires : tie.Need-plain-mark-requires
+plain-mark-requires c κs = search needs
 
 returns : tie.Need-returns
-returns c = λ s r. rw (sym (ap isActive (c .before .before .group-state .ensures s r)) ∙ sym (c .before .is-active .ensures) ∙ c .if1 .taken)
-
-returns-2 : tie.Need-returns-2
-returns-2 c = λ s r. rw (sym (ap isActive (c .before .before .group-state .ensures s r)) ∙ sym (c .before .is-active .ensures) ∙ c .if1 .left)
+returns c = c .plain-mark .ensures ∙ ap plainMark (c .before .innermost .ensures)
 
 pub plain-mark-spec : {M : Type 1} → statement M
-plain-mark-spec =
-    tie.close (tie.spec group-state-requires is-active-requires returns returns-2)
+plain-mark-spec = tie.close (tie.spec innermost-requires plain-mark-requires returns)

@@ -1,5 +1,6 @@
 -- Each attribute is that of the definition.
 use native.Mathlib.Omega.{arith}
+use Rattle.value.specs.Places.{over}
 use Rattle.value.proofs.Laws.{skipped-most}
 use borrow.Author.Needs.{needs}
 use Rattle.value.proofs.forms.of_binary.Statement.{statement}
@@ -17,31 +18,26 @@ skips-requires c κs = search needs
 unless-requires : tie.Need-unless-requires
 unless-requires c κs = search needs
 
-add-t14 : tie.Need-add-t14
-add-t14 c =
-    let skips = c .before .before .skips in
-    let at-start = c .before .before .before .before .before .before .before in
-    omega (arith, c .before .unless .ensures, skipped-most (skips .result) (at-start .args .b .count), at-start .pre)
-
 add-t15 : tie.Need-add-t15
 add-t15 c =
     let skips = c .before .before .skips in
-    let at-start = c .before .before .before .before .before .before .before in
-    omega (arith, c .before .unless .ensures, skipped-most (skips .result) (at-start .args .b .count), at-start .pre)
+    let start = c .before .before .before .before .before .before .before in
+    omega (arith, c .before .unless .ensures, skipped-most (skips .result) (start .args .b .count), start .pre)
 
-either-requires : tie.Need-either-requires
-either-requires c κs = search needs
+add-t16 : tie.Need-add-t16
+add-t16 c =
+    let skips = c .before .before .skips in
+    let start = c .before .before .before .before .before .before .before in
+    omega (arith, c .before .unless .ensures, skipped-most (skips .result) (start .args .b .count), start .pre)
 
 returns : tie.Need-returns
 returns c =
-    let unless = c .before .before .unless in
-    let skips = c .before .before .before .skips in
-    let binary = c .before .before .before .before .binary in
-    let of-binary = c .before .before .before .before .before .of-binary in
-    let start = c .before .before .before .before .before .before .before .before .args in
-    let e = start .expr .now in
-    let t = start .table .now in
-    rw (of-binary .ensures, binary .ensures, unless .ensures, skips .ensures e t, c .either .ensures)
+    let skips = c .before .before .skips in
+    let binary = c .before .before .before .binary in
+    let of-binary = c .before .before .before .before .of-binary in
+    let start = c .before .before .before .before .before .before .before in
+    let m = over (start .args .expr .now) (start .args .table .now) in
+    rw (of-binary .ensures, binary .ensures, c .before .unless .ensures, skips .ensures m)
 
 pub of-binary-spec : {M : Type 1} → statement M
 of-binary-spec =
@@ -51,7 +47,6 @@ of-binary-spec =
     binary-requires
     skips-requires
     unless-requires
-    add-t14
     add-t15
-    either-requires
+    add-t16
     returns)

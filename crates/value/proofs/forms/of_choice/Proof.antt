@@ -17,31 +17,24 @@ first-arm-requires c κs = search needs
 chosen-requires : tie.Need-chosen-requires
 chosen-requires c κs = search needs
 
-add-t14 : tie.Need-add-t14
-add-t14 c =
-    let first-arm = c .before .before .first-arm in
-    let at-start = c .before .before .before .before .before in
-    omega (arith, c .before .chosen .ensures, chosen-most (first-arm .result) (at-start .args .a .count) (at-start .args .b .count), at-start .pre)
-
 add-t15 : tie.Need-add-t15
 add-t15 c =
     let first-arm = c .before .before .first-arm in
-    let at-start = c .before .before .before .before .before in
-    omega (arith, c .before .chosen .ensures, chosen-most (first-arm .result) (at-start .args .a .count) (at-start .args .b .count), at-start .pre)
+    let start = c .before .before .before .before .before in
+    omega (arith, c .before .chosen .ensures, chosen-most (first-arm .result) (start .args .a .count) (start .args .b .count), start .pre)
 
-either-requires : tie.Need-either-requires
-either-requires c κs = search needs
-
-either-requires-2 : tie.Need-either-requires-2
-either-requires-2 c κs = search needs
+add-t16 : tie.Need-add-t16
+add-t16 c =
+    let first-arm = c .before .before .first-arm in
+    let start = c .before .before .before .before .before in
+    omega (arith, c .before .chosen .ensures, chosen-most (first-arm .result) (start .args .a .count) (start .args .b .count), start .pre)
 
 returns : tie.Need-returns
 returns c =
-    let chosen = c .before .before .before .chosen in
-    let first-arm = c .before .before .before .before .first-arm in
-    let choice = c .before .before .before .before .before .choice in
-    let of-choice = c .before .before .before .before .before .before .of-choice in
-    λ e t. rw (of-choice .ensures, choice .ensures e t, chosen .ensures, first-arm .ensures e t, c .either2 .ensures, c .before .either .ensures)
+    let first-arm = c .before .before .first-arm in
+    let start = c .before .before .before in
+    let c4 = start .before in
+    λ m. rw (c4 .of-choice .ensures, start .choice .ensures m, c .before .chosen .ensures, first-arm .ensures m)
 
 pub of-choice-spec : {M : Type 1} → statement M
 of-choice-spec =
@@ -51,8 +44,6 @@ of-choice-spec =
     choice-requires
     first-arm-requires
     chosen-requires
-    add-t14
     add-t15
-    either-requires
-    either-requires-2
+    add-t16
     returns)

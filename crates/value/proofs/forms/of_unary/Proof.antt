@@ -13,7 +13,9 @@ add-t7 : tie.Need-add-t7
 add-t7 c = search needs
 
 returns : tie.Need-returns
-returns c = λ e t. rw (c .before .before .of-unary .ensures, c .before .unary .ensures e t)
+returns c =
+    let of-unary = c .before .before .of-unary in
+    λ m. rw (of-unary .ensures, c .before .unary .ensures m)
 
 pub of-unary-spec : {M : Type 1} → statement M
 of-unary-spec = tie.close (tie.spec of-unary-requires unary-requires add-t7 returns)

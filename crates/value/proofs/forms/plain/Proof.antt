@@ -7,7 +7,7 @@ kind-of-requires : tie.Need-kind-of-requires
 kind-of-requires c κs = search needs
 
 returns : tie.Need-returns
-returns c = λ e t. rw (c .kind-of .ensures e t)
+returns c = λ m. rw (c .kind-of .ensures m)
 
 pub plain-spec : {M : Type 1} → statement M
 plain-spec = tie.close (tie.spec kind-of-requires returns)

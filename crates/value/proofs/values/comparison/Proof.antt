@@ -10,7 +10,7 @@ truth-requires : tie.Need-truth-requires
 truth-requires c κs = search needs
 
 returns : tie.Need-returns
-returns c = λ e t. rw (c .truth .ensures, c .before .holds .ensures)
+returns c = λ m. rw (c .truth .ensures, c .before .holds .ensures)
 
 pub comparison-spec : {M : Type 1} → statement M
 comparison-spec = tie.close (tie.spec holds-requires truth-requires returns)
