@@ -179,7 +179,8 @@ enum korzhinay_datum {
  *   22  what follows a word that is read is not what it takes: no blank directly after !if, !ifdef, !ifndef, !elseif or !elif;
  *       anything except one macro, as NAME or $(NAME), after !ifdef or !ifndef; anything at all after !else or !endif; blanks and a
  *       comment are allowed
- *   3 to 12  an expression that is read, as korzhinay_evaluate refuses it (a line is too short for 2)
+ *   3 to 12  an expression that is read, as korzhinay_evaluate refuses it; but never 8, since `|` and `||` need no parentheses in
+ *       directives: 9 to 12 are checked then; and never 2, since a line is too short for it
  *   13  the value of an expression that is read is neither the number 0 nor the number 1
  * and after the last line:
  *   21  an !if, !ifdef or !ifndef is still open; the line is that of the innermost one */

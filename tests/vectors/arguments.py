@@ -1,6 +1,7 @@
 """Selection: the text after a word that is read, under the table of settings.py. Worked out by hand from document 01 (Lines and
 directives) and the decisions in docs/DECISIONS.md. Each text is tried where it is read and where it is not.
 """
+import bars
 from settings import LONGEST_MACRO, LONGEST_PCD, TABLE
 
 # After !if, !elseif and !elif: the mark and the count of operators, or a refusal number.
@@ -100,9 +101,7 @@ CONDITIONS = [
     (b" ()", 7),
     (b" 1 +", 7),
     (b" 1 ? 1", 7),
-    # 8, 9, 10
-    (b" 1 | 1", 8),
-    (b" 1 || 0", 8),
+    # 9, 10
     (b" g.None", 9),
     (b" 0 AND g.None", 9),
     (b" A.A", 9),
@@ -144,7 +143,6 @@ CONDITIONS = [
     (b" 2 @", 3),
     (b" 2 + 18446744073709551616", 4),
     (b" 2 2", 7),
-    (b" 2 | 1", 8),
     (b" 2 + g.None", 9),
     (b" 2 + 'a'", 10),
     (b" 2 - 3", 11),
@@ -290,7 +288,7 @@ def within(wanted, front, back):
 
 
 FILES = []
-for text, wanted in CONDITIONS:
+for text, wanted in CONDITIONS + bars.CONDITIONS:
     FILES += [
         (b"!if" + text + b"\n!endif", within(wanted, "", "5")),
         (b"x\n\t!if" + text + b"\n!endif\n", within(wanted, "1", "5")),

@@ -1,6 +1,7 @@
 """Gathers the vectors of evaluation: an expression, a table, and the answer, which is a refusal number (0: none) and the six numbers:
 kind, number, count of operators, and a string's array (0 the expression, 1 the table), start and length.
 """
+import bars
 import operators
 import precedence
 import refusals
@@ -61,11 +62,11 @@ def refusal(number):
     return number, (0,) * 6
 
 
-WITH_NUMBERS = values.NUMBERS + precedence.VECTORS + operators.NUMBERS
+WITH_NUMBERS = values.NUMBERS + precedence.VECTORS + operators.NUMBERS + bars.NUMBERS
 VECTORS = (
     [(expression, TABLE, answer(NUMBER, *rest)) for expression, *rest in WITH_NUMBERS]
     + [(expression, TABLE, answer(kind, 0, *rest)) for expression, kind, *rest in values.STRINGS]
-    + [(expression, TABLE, refusal(number)) for expression, number in refusals.VECTORS + operators.REFUSED]
+    + [(expression, TABLE, refusal(number)) for expression, number in refusals.VECTORS + operators.REFUSED + bars.BY_THEMSELVES]
     + [
         (expression, table, refusal(*rest) if len(rest) == 1 else answer(NUMBER, *rest))
         for expression, table, rest in OTHER_TABLES

@@ -2,6 +2,7 @@
 
 VECTORS gathers them: an expression, a table, a datum code, the buffer's length, and the field's bytes or a refusal number.
 """
+import bars
 from settings import TABLE
 
 VOID, BOOLEAN, UINT8, UINT16, UINT32, UINT64 = range(6)
@@ -123,6 +124,8 @@ REFUSED = [
 ]
 
 VECTORS = list(REFUSED)
+# the expression's own, whatever the datum and the room
+VECTORS += [(text, TABLE, code, room, refusal) for text, refusal in bars.BY_THEMSELVES for code, room in ((UINT8, 8), (6, 0))]
 for text, code, wanted in FIELDS:
     VECTORS += [(text, TABLE, code, len(wanted) + more, wanted) for more in (0, 1, 2, 9)]
     VECTORS += [(text, TABLE, code, room, 26) for room in sorted({0, len(wanted) // 2, len(wanted) - 1})]

@@ -2,6 +2,7 @@
 (0: none), its line, and the marks of the lines and the count of operators.
 """
 import arguments
+import bars
 import groups
 import limits
 import lines
@@ -11,6 +12,7 @@ WHOLE = (
     [(file, table, wanted) for file, wanted in lines.VECTORS for table in (b"", TABLE)]
     + groups.VECTORS
     + arguments.VECTORS
+    + bars.VECTORS
     + limits.VECTORS
 )
 

@@ -1,4 +1,4 @@
--- The meaning of blocks is no fault with a number from 17 to 21, since no text has such a fault. Assumes nothing.
+-- A fault in the meaning of blocks has a number that a text can be refused with: not 8, and none from 17 to 21. Assumes nothing.
 use Prim.Native.Nat.{ℕ, _≤_}
 use mathlib.Core.Path.{_≡_}
 use mathlib.Core.Bool.{Bool, true, false, not, _&&_}
@@ -12,11 +12,11 @@ use Rattle.line.specs.declared.Condition.{Condition}
 use Rattle.line.specs.declared.Condition.the-variants.{Holds, Fails, Refused}
 use Rattle.blocks.specs.Blocks.{Blocks, empty, line, group, Branches, endif, elseif, else}
 use Rattle.blocks.specs.Meaning.{Meaning, means, fault, single, _then_, branch, otherwise, closing, meaning, branches}
-use Rattle.blocks.proofs.TextFaults.{Other-than, InCondition, in-condition}
+use Rattle.blocks.proofs.TextFaults.{fromText, InCondition, in-condition, not-of-lines}
 
 abbrev Sorted : Meaning → Type 0
 Sorted (means ms c) = Unit
-Sorted (fault r i) = Other-than r
+Sorted (fault r i) = fromText r ≡ true
 
 then-sorted : (a b : Meaning) → Sorted a → Sorted b → Sorted (a then b)
 then-sorted (means ms c) (means ns d) h k = tt
@@ -71,5 +71,8 @@ module _ (t : List ℕ) (δ : Dialect) where
         (λ _. closing-sorted around (evaluate t Endif (textOf e) δ) (in-condition t δ Endif (textOf e)))
         around (otherwise taken (evaluate t Else (textOf l) δ)) taken (otherwise-sorted taken (evaluate t Else (textOf l) δ) (in-condition t δ Else (textOf l)))
 
+pub fault-from-text : (t : List ℕ) (δ : Dialect) (bs : Blocks) (r i : ℕ) → meaning t true bs δ ≡ fault r i → fromText r ≡ true
+fault-from-text t δ bs r i e = let h : Sorted (fault r i) = rw e at (blocks-sorted t δ bs true) in h
+
 pub fault-numbers : (t : List ℕ) (δ : Dialect) (bs : Blocks) (r i : ℕ) → meaning t true bs δ ≡ fault r i → 17 ≤ r → r ≤ 21 → ⊥
-fault-numbers t δ bs r i e = let h : Sorted (fault r i) = rw e at (blocks-sorted t δ bs true) in h
+fault-numbers t δ bs r i e = not-of-lines r (fault-from-text t δ bs r i e)

@@ -21,3 +21,5 @@ pub mod TooDeep
 pub mod FaultNumbers
 pub mod PassableLines
 pub mod Refused
+pub mod NeverBar
+pub mod ConditionAnswer

@@ -52,6 +52,11 @@ conditions =
     ∷ reads If "" (Refused TEXT-MALFORMED)
     ∷ reads If "(1)" (Refused TEXT-MALFORMED)
     ∷ reads Elseif "\t1" (Holds 0)
+    ∷ reads If " 1 | 0" (Holds 1)
+    ∷ reads If " 2 | 1" (Refused CONDITION-VALUE)
+    ∷ reads If " 0 || 0" (Fails 1)
+    ∷ reads Elseif " 1 || 1 / 0" (Holds 1)
+    ∷ reads Elseif " 1 |" (Refused NO-DERIVATION)
     ∷ []
 
 conditions-hold : map (λ x. evaluate [] (x .directive) (bytes (x .text)) STRICT) conditions ≡ map (λ x. x .condition) conditions
@@ -71,6 +76,7 @@ texts =
     ∷ reads Ifdef " $A" (Refused TEXT-MALFORMED)
     ∷ reads Ifdef " $()" (Refused TEXT-MALFORMED)
     ∷ reads Ifdef " A B" (Refused TEXT-MALFORMED)
+    ∷ reads Ifdef " A || B" (Refused TEXT-MALFORMED)
     ∷ reads Ifdef " # A" (Refused TEXT-MALFORMED)
     ∷ reads Ifdef "A" (Refused TEXT-MALFORMED)
     ∷ reads Else "" (Holds 0)

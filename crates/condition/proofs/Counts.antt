@@ -6,6 +6,7 @@ use mathlib.Core.Bool.{Bool, true, false, not}
 use mathlib.Core.List.{List}
 use lib.Dec.{eqb}
 use lib.ListN.{drop}
+use Rattle.units.specs.Dialects.{inDirectives}
 use Rattle.units.specs.declared.Dialect.{Dialect}
 use Rattle.text.specs.Bytes.{pick}
 use Rattle.text.specs.Runs.{span}
@@ -36,12 +37,14 @@ of-answer (value (fault r) n) h = omega arith
 of-answer (refused r) h = omega arith
 
 module _ (t s : List ℕ) (δ : Dialect) where
-  answered : (v : Value) (n : ℕ) → evaluationIn (over s t) δ ≡ value v n → n < 200
-  answered v n e = omega (arith, counted (over s t) δ v n e, most-tokens s δ)
+  answered : (ε : Dialect) (v : Value) (n : ℕ) → evaluationIn (over s t) ε ≡ value v n → n < 200
+  answered ε v n e = omega (arith, counted (over s t) ε v n e, most-tokens s ε)
 
   expression-small : Small (ofExpression t s δ)
   unfolding ofExpression
-  expression-small = pick-case Small (spaced s) (λ _. of-answer (evaluationIn (over s t) δ) answered) (λ _. omega arith)
+  expression-small =
+      let free = inDirectives δ in
+      pick-case Small (spaced s) (λ _. of-answer (evaluationIn (over s t) free) (answered free)) (λ _. omega arith)
 
 tested-small : (b : Bool) → Small (tested b)
 tested-small b = pick-case Small b (λ _. omega arith) (λ _. omega arith)

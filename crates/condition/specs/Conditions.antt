@@ -1,11 +1,12 @@
 -- The condition in the text after the word of a directive that is read (document 01, "Lines and directives"): it holds or fails, with the
--- number of operators that were applied; or it is refused: 22, then the refusals of the expression, then 13. `δ` is the dialect.
+-- number of operators that were applied; or it is refused: 22, then the refusals of the expression, except 8, then 13. `δ` is the dialect.
 use Prim.Native.Nat.{ℕ, _+_}
 use mathlib.Core.Bool.{Bool, true, false, not, _&&_, _||_}
 use mathlib.Core.List.{List}
 use lib.ListN.{length, getD, take, drop}
 use lib.Dec.{eqb, ltb, leb}
 use Rattle.units.specs.Refusals.{CONDITION-VALUE, TEXT-MALFORMED}
+use Rattle.units.specs.Dialects.{inDirectives}
 use Rattle.units.specs.declared.Dialect.{Dialect}
 use Rattle.text.specs.Bytes.{byte, pick, blank}
 use Rattle.text.specs.Runs.{span}
@@ -46,9 +47,9 @@ ofAnswer (value (text k p s) n) = Refused CONDITION-VALUE
 ofAnswer (value (fault r) n) = Refused CONDITION-VALUE
 ofAnswer (refused r) = Refused (r .number)
 
--- `!if` and `!elseif`: the argument is all of the text
+-- `!if` and `!elseif`: the argument is all of the text, and bars need no parentheses in it (document 02, order 1)
 unfoldable pub ofExpression : (t : List ℕ) → List ℕ → Dialect → Condition
-ofExpression t s δ = pick (spaced s) (ofAnswer (evaluationIn (over s t) δ)) (Refused TEXT-MALFORMED)
+ofExpression t s δ = pick (spaced s) (ofAnswer (evaluationIn (over s t) (inDirectives δ))) (Refused TEXT-MALFORMED)
 
 -- the name of a macro at the front of a text: its start, its length, which is 0 if there is none, and the start of the text after it
 abbrev pub nameOver : (start len after : ℕ) → Named

@@ -37,7 +37,7 @@ fn of_answer(a: Answer) -> Condition
     }
 }
 
-// The argument is all of the text.
+// The argument is all of the text. Bars need no parentheses in it.
 pub fn of_expression<'a>(table: &'a [u8], text: &'a [u8], dialect: Dialect) -> Condition
     requires { ⌜ ordered (now table) ≡ true ⌝ }
     ensures { λ r. ⌜ r ≡ ofExpression (now (table .entry)) (now (text .entry)) dialect ⌝ }
@@ -45,5 +45,5 @@ pub fn of_expression<'a>(table: &'a [u8], text: &'a [u8], dialect: Dialect) -> C
     if !blanks::is_spaced(text) {
         return Condition::Refused(units::TEXT_MALFORMED);
     }
-    of_answer(outcome::evaluate_in(text, table, dialect))
+    of_answer(outcome::evaluate_in(text, table, Dialect { bars: true }))
 }

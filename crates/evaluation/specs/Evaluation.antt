@@ -1,6 +1,6 @@
 -- The answer to an expression (document 01, "Kinds and values" and "Refusal numbers"): its value and the number of operators that were
--- applied, or a refusal. The order of refusals: 1; 2; 3, 4 and 5 as reading meets them; 6; 7; 8; 9; 10; and last those of evaluation
--- itself, 11 and 12. The definition computes, so it calls the parser; the page of theorems states the answer in terms of derivations alone.
+-- applied, or a refusal. The order of refusals: 1; 2; 3, 4 and 5 as reading meets them; 6; 7; 8, unless the dialect frees bars; 9; 10; and last
+-- those of evaluation itself, 11 and 12. The definition computes, so it calls the parser; the page of theorems states the answer in terms of derivations alone.
 -- `m` is the memory, an expression and a table; `δ` is the dialect.
 use Prim.Native.Nat.{ℕ}
 use mathlib.Core.Path.{_≡_}

@@ -1,1 +1,2 @@
 pub mod LineZero
+pub mod Refused

@@ -3,6 +3,7 @@ use Prim.Native.Nat.{ℕ}
 use mathlib.Core.Path.{_≡_, refl, sym, ap, _∙_}
 use mathlib.Core.Bool.{Bool, true, false}
 use mathlib.Core.List.{List}
+use Rattle.units.specs.Dialects.{inDirectives}
 use Rattle.units.specs.declared.Dialect.{Dialect}
 use Rattle.lookup.specs.Setting.{settingUnder, recordUnder}
 use Rattle.lookup.proofs.Records.{contentsOf, under-content}
@@ -27,9 +28,12 @@ same-found : (t₁ t₂ n : List ℕ) → recordUnder t₁ n ≡ recordUnder t�
 same-found t₁ t₂ n e = ap (λ c. c .found) (under-content t₁ n ∙ ap contentsOf e ∙ sym (under-content t₂ n))
 
 module _ (t₁ t₂ s : List ℕ) (δ : Dialect) where
-  same-expression : erasePlacesIn (evaluationIn (over s t₁) δ) ≡ erasePlacesIn (evaluationIn (over s t₂) δ) → ofExpression t₁ s δ ≡ ofExpression t₂ s δ
+  abbrev answerOver : List ℕ → Evaluation
+  answerOver t = evaluationIn (over s t) (inDirectives δ)
+
+  same-expression : erasePlacesIn (answerOver t₁) ≡ erasePlacesIn (answerOver t₂) → ofExpression t₁ s δ ≡ ofExpression t₂ s δ
   unfolding ofExpression
-  same-expression e = rw (sym (erased-condition (evaluationIn (over s t₁) δ)) ∙ ap ofAnswer e ∙ erased-condition (evaluationIn (over s t₂) δ))
+  same-expression e = rw (sym (erased-condition (answerOver t₁)) ∙ ap ofAnswer e ∙ erased-condition (answerOver t₂))
 
   same-name : (wanted : Bool) → recordUnder t₁ (macroIn s δ) ≡ recordUnder t₂ (macroIn s δ) → ofMacro t₁ wanted s δ ≡ ofMacro t₂ wanted s δ
   unfolding ofMacro ofNamed
@@ -37,8 +41,8 @@ module _ (t₁ t₂ s : List ℕ) (δ : Dialect) where
 
   pub same-condition : (d : Directive) → SameRecords t₁ t₂ d s δ → evaluate t₁ d s δ ≡ evaluate t₂ d s δ
   unfolding evaluate
-  same-condition If h = same-expression (isolated s t₁ t₂ δ h)
-  same-condition Elseif h = same-expression (isolated s t₁ t₂ δ h)
+  same-condition If h = same-expression (isolated s t₁ t₂ (inDirectives δ) h)
+  same-condition Elseif h = same-expression (isolated s t₁ t₂ (inDirectives δ) h)
   same-condition Ifdef h = same-name true (h (macroIn s δ) refl)
   same-condition Ifndef h = same-name false (h (macroIn s δ) refl)
   same-condition Else h = refl

@@ -6,6 +6,7 @@ use mathlib.Core.Path.{_≡_}
 use mathlib.Core.Bool.{true}
 use mathlib.Core.List.{List, []}
 use lib.ListN.{length, getD, take, drop}
+use Rattle.units.specs.Dialects.{inDirectives}
 use Rattle.units.specs.declared.Dialect.{Dialect}
 use Rattle.text.specs.Runs.{span}
 use Rattle.text.specs.declared.runs.Set.the-variants.{Blanks}
@@ -30,8 +31,8 @@ macroIn s δ =
 -- A directive that is read, with the text s, names n: a condition names all its macros and PCDs, those of skipped operands too; an `!ifdef`
 -- or `!ifndef` names its one macro.
 abbrev pub Mentions : Directive → (s n : List ℕ) → Dialect → Type 0
-Mentions If s n δ = Names s n δ
-Mentions Elseif s n δ = Names s n δ
+Mentions If s n δ = Names s n (inDirectives δ)
+Mentions Elseif s n δ = Names s n (inDirectives δ)
 Mentions Ifdef s n δ = n ≡ macroIn s δ
 Mentions Ifndef s n δ = n ≡ macroIn s δ
 Mentions Else s n δ = ⊥

@@ -8,7 +8,8 @@ use mathlib.Core.Logic.{_↔_, _⊎_}
 use mathlib.Core.Bool.{true, false, not, _&&_}
 use mathlib.Core.List.{List, map}
 use lib.ListN.{length, getD, take}
-use Rattle.units.specs.Refusals.{TABLE-MALFORMED, NO-DERIVATION}
+use Rattle.units.specs.Refusals.{TABLE-MALFORMED, NO-DERIVATION, BAR-OUTSIDE, TEXT-MALFORMED}
+use Rattle.units.specs.Dialects.{STRICT, inDirectives}
 use Rattle.units.specs.declared.Refusal.{Refusal}
 use Rattle.units.specs.declared.Dialect.{Dialect}
 use Rattle.settings.specs.Table.{wellFormed}
@@ -20,7 +21,7 @@ use Rattle.grammar.specs.Bars.{bare, barOutside}
 use Rattle.grammar.specs.Parse.{Reads, parse, accepted as parsed, refused as unparsed}
 use Rattle.grammar.proofs.Decided.{unambiguous, bounded, evaluates}
 use Rattle.grammar.proofs.Bars.{bars-seen}
-use Rattle.value.specs.Places.{Memory}
+use Rattle.value.specs.Places.{Memory, over}
 use Rattle.value.specs.Values.{Value, kindOf, HasKind, InBounds, hasMissingPcd}
 use Rattle.value.specs.declared.Kind.the-variants.{Clash}
 use Rattle.expression.specs.Meaning.{codeOf, meaning as attributes}
@@ -28,7 +29,12 @@ use Rattle.evaluation.specs.Evaluation.{value, refused as refusedWhole, refused
 use Rattle.answers.proofs.AnswersExact.{malformed, well-formed, unreadable as not-read, underived, derived, kind-sound, value-kind, counted}
 use Rattle.answers.proofs.StringsInBounds.{strings-in-bounds}
 use Rattle.answers.proofs.LineZero.{without-line}
+use Rattle.answers.proofs.Bars.{same-reading, bars-only, eight-exactly}
 use Rattle.line.specs.Lines.{lines}
+use Rattle.line.specs.declared.Directive.{Directive}
+use Rattle.line.specs.declared.Directive.the-variants.{If, Elseif}
+use Rattle.line.specs.declared.Condition.the-variants.{Refused as RefusedCondition}
+use Rattle.condition.specs.Conditions.{spaced, ofAnswer, evaluate}
 use Rattle.select.specs.Select.{accepted, refused, run, start, selection, Selects}
 use Rattle.select.specs.declared.Answer.{Answer}
 use Rattle.select.specs.declared.Answer.the-variants.{Accepted}
@@ -43,10 +49,15 @@ use Rattle.blocks.proofs.MarksTellReading.{marks-tell-reading}
 use Rattle.blocks.proofs.Refused.{refused-by-blocks}
 use Rattle.blocks.proofs.FaultNumbers.{fault-numbers}
 use Rattle.blocks.proofs.OneInnermost.{one-innermost}
+use Rattle.blocks.proofs.TextFaults.{never-bar}
+use Rattle.blocks.proofs.NeverBar.{never-bar as selection-never-bar}
+use Rattle.blocks.proofs.ConditionAnswer.{condition-answer, unspaced}
 use Rattle.isolation.specs.Isolation.{Comparable}
 use Rattle.isolation.proofs.SelectionIsolated.{isolation, two-calls}
 use Rattle.field.specs.Fields.{fieldOf, lineOf as lineOfField}
 use Rattle.field.proofs.LineZero.{without-line as field-without-line}
+use Rattle.field.proofs.Refused.{refused-field}
+use Rattle.datum.specs.declared.Written.the-variants.{Refused as RefusedField}
 
 -- EXPRESSIONS (demand 2)
 
@@ -56,7 +67,8 @@ pub one-tree : {K : Type 0} (code : K → ℕ) (ts : List K) (s u : Tree K)
 one-tree = unambiguous
 
 -- Over a malformed table every expression is refused with 1. Over any other the answer is that without the check of the table, which is also
--- what a condition of a selection takes; the theorems after these say what it is. So a value is answered over a well-formed table only.
+-- what a condition of a selection takes, in its own dialect; the theorems after these say what it is. So a value is answered over a
+-- well-formed table only.
 pub malformed-table : (m : Memory) (δ : Dialect) → wellFormed (m .table) ≡ false → evaluation m δ ≡ refusedWith TABLE-MALFORMED
 malformed-table = malformed
 
@@ -151,6 +163,45 @@ faults-have-other-numbers = fault-numbers
 -- At most one line is the innermost open `!if`.
 pub innermost-is-one-line : (ls : List (List ℕ)) (n k : ℕ) → Innermost ls n → Innermost ls k → n ≡ k
 innermost-is-one-line = one-innermost
+
+-- BARS (document 02, order 1)
+
+-- In directives bars need no parentheses. After `!if` and `!elseif` the text without a blank at its front is refused with 22. With one it is
+-- evaluated as any expression is, in a dialect that frees bars: the theorems on `evaluationIn` say what its answer is, and by `tree-decides` no
+-- bar is refused.
+pub condition-needs-a-blank : (t : List ℕ) (d : Directive) (s : List ℕ) (δ : Dialect) → (d ≡ If) ⊎ (d ≡ Elseif) → spaced s ≡ false
+    → evaluate t d s δ ≡ RefusedCondition TEXT-MALFORMED
+condition-needs-a-blank = unspaced
+
+pub condition-is-an-answer : (t : List ℕ) (d : Directive) (s : List ℕ) (δ : Dialect) → (d ≡ If) ⊎ (d ≡ Elseif) → spaced s ≡ true
+    → evaluate t d s δ ≡ ofAnswer (evaluationIn (over s t) (inDirectives δ))
+condition-is-an-answer = condition-answer
+
+-- No directive is refused with 8, whatever its text is, and no selection is.
+pub directive-never-8 : (t : List ℕ) (d : Directive) (s : List ℕ) (δ : Dialect) → evaluate t d s δ ≡ RefusedCondition BAR-OUTSIDE → ⊥
+directive-never-8 = never-bar
+
+pub selection-never-8 : (f t : List ℕ) (δ : Dialect) (n room : ℕ) → selection f t room δ ≡ refused BAR-OUTSIDE n → ⊥
+selection-never-8 = selection-never-bar
+
+-- Nothing else differs in directives: a text has the same tokens there, and the same answer if that is not 8.
+pub bars-leave-tokens : (e : List ℕ) (δ : Dialect) → reading e (inDirectives δ) ≡ reading e δ
+bars-leave-tokens = same-reading
+
+pub bars-decide-8-only : (m : Memory) (δ : Dialect)
+    → (evaluationIn m δ ≡ refusedWith BAR-OUTSIDE → ⊥) → evaluationIn m (inDirectives δ) ≡ evaluationIn m δ
+bars-decide-8-only = bars-only
+
+-- By itself, if reading is complete and the tokens derive a tree, an expression is refused with 8 exactly if a bar is outside parentheses.
+pub bar-by-itself : (m : Memory) → reading (m .expression) STRICT .ending ≡ Complete
+    → (s : Tree Token) (d : Derives codeOf expression (reading (m .expression) STRICT .tokens) s)
+    → (evaluationIn m STRICT ≡ refusedWith BAR-OUTSIDE) ↔ (bare codeOf d ≡ true)
+bar-by-itself = eight-exactly
+
+-- A data field has the refusals of its expression, in any dialect, and the buffer then stays as it was.
+pub field-refuses-expression : (m : Memory) (datum : ℕ) (buffer : List ℕ) (δ : Dialect) (r : Refusal) → evaluation m δ ≡ refusedWhole r
+    → fieldOf m datum buffer δ ≡ record { answer = RefusedField r; buffer = buffer }
+field-refuses-expression = refused-field
 
 -- ISOLATION (demand 3)
 

@@ -5,6 +5,7 @@ use std::ops::Range;
 use oracle::Value;
 
 use crate::crash;
+use crate::gen::formulas::Place;
 use crate::gen::settings::{self, Names};
 use crate::gen::{expressions, tables, values};
 use crate::lent::{Input, Shown};
@@ -72,7 +73,7 @@ impl Subject for Evaluations {
         let table = settings::table(rng);
         let names = Names::of(&table);
         for _ in 0..TO_A_TABLE {
-            let expr = values::any(rng, &names);
+            let expr = values::any(rng, &names, Place::Alone);
             compare(&expr, &table, rng.next(), tally)?;
         }
         Ok(())

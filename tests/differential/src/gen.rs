@@ -7,7 +7,7 @@ pub mod expressions;
 mod extremes;
 pub mod fields;
 pub mod files;
-mod formulas;
+pub mod formulas;
 mod groups;
 mod lexemes;
 mod names;

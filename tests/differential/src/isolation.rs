@@ -2,6 +2,7 @@
 //! files and tables that agree in what is read must get the same answer from
 //! the library. Changes of what is read must show.
 
+use crate::bars;
 use crate::gen::settings::{self, Names};
 use crate::gen::{disturbed, files, short_files, tables, twins};
 use crate::library::Selected;
@@ -31,11 +32,16 @@ impl Subject for Isolation {
         &[]
     }
 
+    fn never(&self) -> &'static [u8] {
+        &[oracle::refusal::BAR]
+    }
+
     /// Without this a library that always gives the same answer would pass.
     fn lacks(&self, random: &Tally) -> Option<String> {
         let (pairs, showed) = (random.met(0), random.extra);
         (showed < pairs / 2)
             .then(|| format!("of {pairs} accepted files, changes showed {showed} times only"))
+            .or_else(|| bars::lack(random))
     }
 
     fn fixed(&self, tally: &mut Tally) -> Result<(), Mismatch> {
@@ -86,6 +92,7 @@ fn pair(rng: &mut Prng, file: &[u8], table: &[u8], tally: &mut Tally) -> Result<
             library: write_selected(&answer),
         });
     };
+    tally.with_bars += u64::from(bars::in_read_condition(file, &marks));
     let named = twins::named(file, &marks);
     let second_file = twins::file(rng, file, &marks);
     let second_table = twins::table(rng, table, &named);

@@ -15,6 +15,8 @@ pub struct Tally {
     answers: [u64; 256],
     /// Further comparisons that have no refusal, such as lookups.
     pub extra: u64,
+    /// Accepted files with a bar outside parentheses in a condition that is read.
+    pub with_bars: u64,
 }
 
 impl Tally {
@@ -22,6 +24,7 @@ impl Tally {
         Tally {
             answers: [0; 256],
             extra: 0,
+            with_bars: 0,
         }
     }
 

@@ -1,8 +1,9 @@
-//! Marks of description files: refusals 1 and 3 to 22, and every byte.
+//! Marks of description files: refusals 1, 3 to 7 and 9 to 22, and every byte.
 
+use crate::bars;
 use crate::crash;
 use crate::gen::settings::{self, Names};
-use crate::gen::{files, short_files, tables};
+use crate::gen::{files, short_files, tables, values};
 use crate::lent::{Input, Shown};
 use crate::library::{self, Selected};
 use crate::prng::Prng;
@@ -26,8 +27,16 @@ impl Subject for Selections {
 
     fn needed(&self) -> &'static [u8] {
         &[
-            1, 3, 4, 5, 6, 7, 8, 9, 10, 11, 12, 13, 14, 15, 16, 17, 18, 19, 20, 21, 22,
+            1, 3, 4, 5, 6, 7, 9, 10, 11, 12, 13, 14, 15, 16, 17, 18, 19, 20, 21, 22,
         ]
+    }
+
+    fn never(&self) -> &'static [u8] {
+        &[oracle::refusal::BAR]
+    }
+
+    fn lacks(&self, random: &Tally) -> Option<String> {
+        bars::lack(random)
     }
 
     fn fixed(&self, tally: &mut Tally) -> Result<(), Mismatch> {
@@ -44,6 +53,7 @@ impl Subject for Selections {
                 case.compare(0x77, tally)?;
             }
         }
+        short_conditions(tally)?;
         long_names(tally)?;
         for room in 0..6 {
             for (index, file) in [&b""[..], b"\n", b"a\nb", b"!if 1\n!endif\n\n", b"!"]
@@ -95,6 +105,20 @@ fn without_bytes(tally: &mut Tally) -> Result<(), Mismatch> {
                 wide.check(given, 4, tally)?;
             }
         }
+    }
+    Ok(())
+}
+
+/// Every condition of up to four tokens, bars outside parentheses among them.
+fn short_conditions(tally: &mut Tally) -> Result<(), Mismatch> {
+    for list in values::token_lists() {
+        let file = format!("!if{list}\n!endif");
+        let case = Case {
+            file: file.as_bytes(),
+            table: b"",
+            room: 2,
+        };
+        case.compare(6, tally)?;
     }
     Ok(())
 }
@@ -170,6 +194,7 @@ impl Case<'_> {
         let expected = self.expected(pattern);
         tally.add(expected.refusal);
         tally.extra += expected.lines;
+        tally.with_bars += u64::from(bars::in_read_condition(self.file, &expected.marks));
         let given = given.map_err(|what| self.broken_memory(what))?;
         match difference(&expected, &given) {
             None => Ok(()),

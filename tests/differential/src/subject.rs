@@ -3,6 +3,8 @@
 
 use std::time::{Duration, Instant};
 
+use oracle::refusal::meaning;
+
 use crate::crash;
 use crate::prng::Prng;
 use crate::report::{Mismatch, Tally};
@@ -15,6 +17,11 @@ pub trait Subject {
 
     /// The refusals that the random cases have to meet.
     fn needed(&self) -> &'static [u8];
+
+    /// The refusals that no input may meet.
+    fn never(&self) -> &'static [u8] {
+        &[]
+    }
 
     /// What else the random cases have to show, if they did not.
     fn lacks(&self, _random: &Tally) -> Option<String> {
@@ -70,6 +77,10 @@ pub fn run(subject: &dyn Subject, load: &Load) -> bool {
     if random.extra > 0 {
         line += &format!(" and {} {extra}", random.extra);
     }
+    if random.with_bars > 0 {
+        let what = "accepted with a bar outside parentheses in a read condition";
+        line += &format!(", {} {what}", random.with_bars);
+    }
     line += &format!(
         ", {} fixed {unit}, no mismatch; accepted {}",
         fixed.total(),
@@ -83,11 +94,19 @@ pub fn run(subject: &dyn Subject, load: &Load) -> bool {
     println!("{line} ({:.1} s)", started.elapsed().as_secs_f64());
 
     let mut complete = true;
+    for &number in subject.never() {
+        let met = fixed.met(number) + random.met(number);
+        if met > 0 {
+            let what = meaning(number);
+            println!("{name}: refusal {number} ({what}) was met {met} times, but never may be");
+            complete = false;
+        }
+    }
     if load.only.is_none() {
         for &number in subject.needed() {
             if random.met(number) == 0 {
-                let meaning = oracle::refusal::meaning(number);
-                println!("{name}: refusal {number} ({meaning}) was never met");
+                let what = meaning(number);
+                println!("{name}: refusal {number} ({what}) was never met");
                 complete = false;
             }
         }

@@ -4,7 +4,7 @@ use std::cmp::Ordering;
 
 use crate::refusal;
 use crate::table::{is_well_formed, lookup, Setting};
-use crate::tokens::{code, scan, Token};
+use crate::tokens::{code, has_bar_outside, scan, Token};
 use crate::tree::{parse, Node, NodeId, Tree};
 
 /// A string value is the very part of the expression or table that holds it.
@@ -42,42 +42,39 @@ pub struct Outcome<'a> {
 /// An outcome, or the number of the refusal.
 pub type Answer<'a> = Result<Outcome<'a>, u8>;
 
-/// The answer to one expression: refusals 1 to 12, or its value.
+/// Where `|` and `||` may be (document 02, order 1).
+#[derive(Clone, Copy, Debug, PartialEq, Eq)]
+pub(crate) enum Bars {
+    /// In parentheses only, else refusal 8: an expression by itself, a field.
+    Enclosed,
+    /// Anywhere: the condition of an `!if` or `!elseif`.
+    Free,
+}
+
+/// The answer to one expression by itself: refusals 1 to 12, or its value.
 pub fn evaluate<'a>(expr: &'a [u8], table: &'a [u8]) -> Answer<'a> {
     if !is_well_formed(table) {
         return Err(refusal::TABLE);
     }
-    evaluate_with(expr, table)
+    evaluate_with(expr, table, Bars::Enclosed)
 }
 
 /// As `evaluate`, for a table that is known to be well formed.
-pub(crate) fn evaluate_with<'a>(expr: &'a [u8], table: &'a [u8]) -> Answer<'a> {
+pub(crate) fn evaluate_with<'a>(expr: &'a [u8], table: &'a [u8], bars: Bars) -> Answer<'a> {
     let scan = scan(expr);
     if let Some(number) = scan.refusal {
         return Err(number);
     }
     let tree = parse(&scan.tokens).ok_or(refusal::GRAMMAR)?;
-    check_bars(expr, &scan.tokens)?;
+    if bars == Bars::Enclosed && has_bar_outside(&scan.tokens) {
+        return Err(refusal::BAR);
+    }
     let operands = operands(expr, table, &scan.tokens)?;
     let work = Work { tree, operands };
     work.kind(work.tree.root)?;
     let mut count = 0;
     let value = work.value(work.tree.root, &mut count)?;
     Ok(Outcome { value, count })
-}
-
-/// No `|` or `||` outside parentheses: both start with this byte. `OR` is allowed anywhere.
-fn check_bars(expr: &[u8], tokens: &[Token]) -> Result<(), u8> {
-    let mut depth = 0;
-    for token in tokens {
-        match token.code {
-            code::OPEN => depth += 1,
-            code::CLOSE => depth -= 1,
-            _ if depth == 0 && expr[token.start] == b'|' => return Err(refusal::BAR),
-            _ => {}
-        }
-    }
-    Ok(())
 }
 
 /// The value of each token that is an operand; the others have 0.

@@ -1,4 +1,5 @@
-//! A plain second implementation of document 01.
+//! A plain second implementation of document 01, and of document 02 up to
+//! order 1.
 //!
 //! It exists to be compared with the product and to be timed against it, so
 //! it is written from the papers alone and prefers the obvious form.

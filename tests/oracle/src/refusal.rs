@@ -14,7 +14,7 @@ pub const TOKEN_COUNT: u8 = 5;
 pub const DEPTH: u8 = 6;
 /// The tokens form no expression.
 pub const GRAMMAR: u8 = 7;
-/// A `|` or `||` is outside all parentheses.
+/// A `|` or `||` is outside all parentheses. No condition meets this.
 pub const BAR: u8 = 8;
 /// A PCD is named that the table does not hold.
 pub const PCD: u8 = 9;

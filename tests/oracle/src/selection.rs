@@ -1,7 +1,8 @@
-//! Which lines of a file are kept (document 01, Lines and directives).
+//! Which lines of a file are kept (document 01, Lines and directives, and
+//! document 02, order 1).
 
 use crate::bytes::{is_blank, macro_length, skip_blanks};
-use crate::expression::{evaluate_with, Value};
+use crate::expression::{evaluate_with, Bars, Value};
 use crate::lines::{lines, sort, Line, Word};
 use crate::refusal;
 use crate::table::{is_well_formed, lookup};
@@ -165,7 +166,7 @@ impl State<'_> {
             Word::Ifdef => self.defined(argument),
             Word::Ifndef => Ok(!self.defined(argument)?),
             _ => {
-                let outcome = evaluate_with(argument, self.table)?;
+                let outcome = evaluate_with(argument, self.table, Bars::Free)?;
                 self.count += outcome.count;
                 match outcome.value {
                     Value::Number(0) => Ok(false),

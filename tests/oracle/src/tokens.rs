@@ -112,6 +112,20 @@ fn check_depth(tokens: &[Token]) -> Result<(), u8> {
     Ok(())
 }
 
+/// Whether a `|` or `||` is outside all parentheses, in tokens that have a
+/// derivation. `OR` is no bar.
+pub fn has_bar_outside(tokens: &[Token]) -> bool {
+    let mut depth = 0;
+    tokens.iter().any(|token| {
+        match token.code {
+            code::OPEN => depth += 1,
+            code::CLOSE => depth -= 1,
+            _ => {}
+        }
+        depth == 0 && matches!(token.code, code::BIT_OR | code::OR_BARS)
+    })
+}
+
 /// Code, length and value of the token at the front of `rest`.
 type Read = Result<(u8, usize, u64), u8>;
 

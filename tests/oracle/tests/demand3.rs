@@ -1,5 +1,6 @@
 //! Demand 3 tried on random pairs of files and tables: what an accepted run
-//! does not read makes no difference.
+//! does not read makes no difference. Conditions have bars outside parentheses
+//! too (document 02, order 1).
 
 mod common;
 
@@ -11,7 +12,16 @@ const NAMES: [&str; 5] = ["A", "B", "C", "g.P", "g.Q"];
 
 /// Texts for unread directives. None starts with a letter, which would go on
 /// with the word.
-const JUNK: [&str; 6] = ["", " @", " 1 / 0", "9x", " 'a", " $(A) == g.P"];
+const JUNK: [&str; 8] = [
+    "",
+    " @",
+    " 1 / 0",
+    "9x",
+    " 'a",
+    " $(A) == g.P",
+    " 1 || g.P",
+    "| 1",
+];
 
 fn any_record(rng: &mut Prng, name: &str) -> [u8; 128] {
     match rng.below(6) {
@@ -33,12 +43,12 @@ fn any_table(rng: &mut Prng) -> Vec<[u8; 128]> {
 
 fn any_condition(rng: &mut Prng) -> String {
     let operand = |rng: &mut Prng| rng.pick(&["0", "1", "$(A)", "$(B)", "$(C)", "g.P", "g.Q"]);
-    let operator = rng.pick(&["==", "!=", "<", "AND", "OR", "-"]);
+    let operator = rng.pick(&["==", "!=", "<", "AND", "OR", "-", "|", "||"]);
     let (left, right) = (operand(rng), operand(rng));
     match rng.below(3) {
         0 => left.to_string(),
         1 => format!("{left} {operator} {right}"),
-        _ => format!("!{left} OR {right} == 1 # c"),
+        _ => format!("!{left} {} {right} == 1 # c", rng.pick(&["OR", "||"])),
     }
 }
 
@@ -104,7 +114,7 @@ fn named(word: Word, argument: &[u8]) -> Vec<String> {
 #[test]
 fn unread_text_makes_no_difference() {
     let mut rng = Prng(3);
-    let mut accepted = 0;
+    let (mut accepted, mut with_bars) = (0, 0);
     for _ in 0..20_000 {
         let mut written = Vec::new();
         any_lines(&mut rng, 3, &mut written);
@@ -134,6 +144,7 @@ fn unread_text_makes_no_difference() {
                     second.extend(spelled.bytes().chain(rng.pick(&JUNK).bytes()));
                 }
                 Line::Directive { word, argument } => {
+                    with_bars += usize::from(argument.contains(&b'|'));
                     fixed.extend(named(word, argument));
                     second.extend(line);
                 }
@@ -151,4 +162,5 @@ fn unread_text_makes_no_difference() {
         assert_eq!(marks_in(&second, &second_table), first, "{file}");
     }
     assert!(accepted > 1_000, "{accepted}");
+    assert!(with_bars > 1_000, "{with_bars}");
 }

@@ -75,8 +75,8 @@ fn near_the_line_length(rng: &mut Prng, names: &Names) -> Vec<u8> {
     join(rng, &lines)
 }
 
-/// Conditions with up to 199 operators each, so that their sum does not fit
-/// a byte, or even two.
+/// Conditions with up to 199 operators each, or up to 99 bars, so that their
+/// sum does not fit a byte, or even two.
 fn many_operators(rng: &mut Prng) -> Vec<u8> {
     let groups = match rng.below(4) {
         0 => rng.between(250, 310),
@@ -84,7 +84,10 @@ fn many_operators(rng: &mut Prng) -> Vec<u8> {
     };
     let lines: Vec<Vec<u8>> = (0..groups)
         .flat_map(|_| {
-            let operators = b"!".repeat(rng.between(150, 199));
+            let operators = match rng.below(4) {
+                0 => b"0|".repeat(rng.between(75, 99)),
+                _ => b"!".repeat(rng.between(150, 199)),
+            };
             let condition = [b"!if ", &operators[..], b"0"].concat();
             [condition, b"!endif".to_vec()]
         })

@@ -1,7 +1,7 @@
 //! What follows a directive's word, and lines made of it.
 
 use super::expressions::damage;
-use super::formulas::{formula, COMPARISONS};
+use super::formulas::{formula, Place, COMPARISONS};
 use super::names::{macro_name, NUMBERS, TEXTS, WIDES};
 use super::settings::{Kind, Names};
 use super::values;
@@ -30,30 +30,23 @@ pub const BLANKS: &[&[u8]] = &[b"", b"", b"", b" ", b"  ", b"\t", b" \t "];
 pub const RUBBISH: &[&[u8]] = &[
     b"", b" ", b"\t", b"#", b" #", b" # c", b"#c", b" @", b"@", b" 1 / 0", b"9x", b"_", b" 'a", b"'", b" x", b"(1)",
     b" $(A", b"$(A)", b" A B", b" a", b" 2", b" 'a'", b" 1 2", b" g.None", b" \xff\0", b"\xe9", b"\r", b" 1\r", b"\x0b1",
-    b" !if 1", b" 18446744073709551616", b" ((((((((((((((((((1", b" 1 | 1", b" $(A) == g.P", b" A.b", b" $( A )",
+    b" !if 1", b" 18446744073709551616", b" ((((((((((((((((((1", b" $(A) == g.P", b" A.b", b" $( A )",
+    b" 1 | 1", b" 2 | 1", b" 1 || 1 / 0", b" 0 || 1 / 0", b" 1 || 'a'", b" 1 || g.None", b" 1 ||", b" || 1", b" A || B", b"|", b"||1",
 ];
 
 /// Mostly a text that is right after `!if`, with a value of 0 or 1.
 pub fn condition(rng: &mut Prng, names: &Names) -> Vec<u8> {
     let mut text = rng.pick(&[&b" "[..], b" ", b" ", b"\t", b"  "]).to_vec();
     text.extend(match rng.below(40) {
-        0..=11 => rng
-            .pick(&["0", "1", "0", "1", "TRUE", "False", "0x1", "(0)", "!0"])
-            .as_bytes()
-            .to_vec(),
-        12..=27 => comparison(rng, names),
-        28..=31 => [b"NOT (", &formula(rng, names, Some(Kind::Number))[..], b")"].concat(),
-        32 | 33 => [
-            &comparison(rng, names)[..],
-            rng.pick(&[&b" AND "[..], b" OR ", b" XOR "]),
-            &comparison(rng, names)[..],
-        ]
-        .concat(),
+        0..=9 => constant(rng),
+        10..=19 => comparison(rng, names),
+        20..=31 => joined(rng, names),
+        32 | 33 => negation(rng, names),
         34 | 35 => written(names.pick(rng, Kind::Number)),
-        36 => formula(rng, names, None),
-        37 => values::any(rng, names),
+        36 => formula(rng, names, None, Place::Condition),
+        37 => values::any(rng, names, Place::Condition),
         38 => {
-            let mut text = comparison(rng, names);
+            let mut text = joined(rng, names);
             damage(rng, &mut text);
             text
         }
@@ -61,6 +54,52 @@ pub fn condition(rng: &mut Prng, names: &Names) -> Vec<u8> {
     });
     text.extend(tail(rng));
     text
+}
+
+fn constant(rng: &mut Prng) -> Vec<u8> {
+    rng.pick(&["0", "1", "0", "1", "TRUE", "False", "0x1", "(0)", "!0"])
+        .into()
+}
+
+fn negation(rng: &mut Prng, names: &Names) -> Vec<u8> {
+    let inner = formula(rng, names, Some(Kind::Number), Place::Condition);
+    [b"NOT (", &inner[..], b")"].concat()
+}
+
+/// Truths with operators between them that keep the value 0 or 1. Half of
+/// those with bars are in parentheses.
+fn joined(rng: &mut Prng, names: &Names) -> Vec<u8> {
+    let mut text = truth(rng, names);
+    let mut bars = false;
+    for _ in 0..rng.pick(&[1, 1, 1, 2, 4]) {
+        let operator: &[u8] = rng.pick(&[
+            &b" AND "[..],
+            b" OR ",
+            b" XOR ",
+            b"&&",
+            b" | ",
+            b" || ",
+            b" || ",
+            b"||",
+        ]);
+        bars |= operator.contains(&b'|');
+        text.extend(operator);
+        text.extend(truth(rng, names));
+    }
+    match bars && !Place::Condition.leaves_bars(rng) {
+        true => [b"(", &text[..], b")"].concat(),
+        false => text,
+    }
+}
+
+/// Mostly with a value of 0 or 1; some only do where they are skipped.
+fn truth(rng: &mut Prng, names: &Names) -> Vec<u8> {
+    match rng.below(20) {
+        0 => rng.pick(&["1 / 0", "0 - 1", "2", "'a'", "g.None"]).into(),
+        1 | 2 => negation(rng, names),
+        3..=8 => constant(rng),
+        _ => comparison(rng, names),
+    }
 }
 
 /// Two operands of one kind, compared.
@@ -126,6 +165,7 @@ pub fn name(rng: &mut Prng, names: &Names) -> Vec<u8> {
             (b"$( ", b")"),
             (b"'", b"'"),
             (b"", b" B"),
+            (b"", b" || B"),
             (b"", b".x"),
         ]),
         1 => return rng.pick(RUBBISH).to_vec(),

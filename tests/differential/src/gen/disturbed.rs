@@ -25,7 +25,7 @@ pub fn file(rng: &mut Prng, file: &[u8], marks: &[u8]) -> Option<Vec<u8>> {
         match sort(line) {
             Ok(Line::Directive { word, .. }) if index == chosen => {
                 let taken = marks[index] == mark::TAKEN;
-                second.extend(other_outcome(word, taken));
+                second.extend(other_outcome(rng, word, taken));
             }
             _ => second.extend(line),
         }
@@ -38,17 +38,18 @@ pub fn file(rng: &mut Prng, file: &[u8], marks: &[u8]) -> Option<Vec<u8>> {
     Some(second)
 }
 
-fn other_outcome(word: Word, taken: bool) -> &'static [u8] {
-    match (word, taken) {
-        (Word::If, true) => b"!if 0",
-        (Word::If, false) => b"!if 1",
-        (Word::Elseif, true) => b"!elif 0",
-        (Word::Elseif, false) => b"!elif 1",
-        (Word::Ifdef, _) => b"!ifdef a",
-        (Word::Ifndef, _) => b"!ifndef",
-        (Word::Else, _) => b"!else x",
-        (Word::Endif, _) => b"!endif x",
-    }
+fn other_outcome(rng: &mut Prng, word: Word, taken: bool) -> &'static [u8] {
+    let lines: [&[u8]; 2] = match (word, taken) {
+        (Word::If, true) => [b"!if 0", b"!if 0 || 0"],
+        (Word::If, false) => [b"!if 1", b"!if 0 | 1"],
+        (Word::Elseif, true) => [b"!elif 0", b"!elif 0 | 0"],
+        (Word::Elseif, false) => [b"!elif 1", b"!elif 1 || 0"],
+        (Word::Ifdef, _) => [b"!ifdef a", b"!ifdef A || B"],
+        (Word::Ifndef, _) => [b"!ifndef", b"!ifndef A | B"],
+        (Word::Else, _) => [b"!else x", b"!else |"],
+        (Word::Endif, _) => [b"!endif x", b"!endif ||"],
+    };
+    rng.pick(&lines)
 }
 
 /// The table without one of the records that are named. None if it has none.

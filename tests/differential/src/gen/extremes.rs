@@ -1,26 +1,35 @@
 //! Expressions with a derivation at or just past a limit.
 
-use super::formulas::{formula, number, COMPARISONS, NUMERIC};
+use super::formulas::{formula, number, Place, COMPARISONS, NUMERIC};
 use super::numbers::EDGES;
 use super::settings::Names;
 use crate::prng::Prng;
 
-pub fn extreme(rng: &mut Prng, names: &Names) -> Vec<u8> {
+pub fn extreme(rng: &mut Prng, names: &Names, place: Place) -> Vec<u8> {
     match rng.below(8) {
-        0 => long(rng, names),
+        0 => long(rng, names, place),
         1 => long_strings(rng),
         2 => unary_chain(rng),
-        3 => binary_chain(rng),
+        3 => binary_chain(rng, place),
         4 => choices_to_the_right(rng),
         5 => choices_in_the_middle(rng),
-        6 => deep(rng, names),
-        _ => edges(rng),
+        6 => deep(rng, names, place),
+        _ => edges(rng, place),
     }
 }
 
+/// In parentheses, since there may be bars. Half of the conditions do without.
+fn enclosed(rng: &mut Prng, expr: String, place: Place) -> Vec<u8> {
+    match place {
+        Place::Condition if place.leaves_bars(rng) => expr,
+        _ => format!("({expr})"),
+    }
+    .into_bytes()
+}
+
 /// 1,022 to 1,026 bytes, blanks or a comment among them.
-fn long(rng: &mut Prng, names: &Names) -> Vec<u8> {
-    let mut expr = formula(rng, names, None);
+fn long(rng: &mut Prng, names: &Names, place: Place) -> Vec<u8> {
+    let mut expr = formula(rng, names, None, place);
     let room = rng.between(1_022, 1_026).saturating_sub(expr.len());
     match rng.below(3) {
         0 => expr.extend(b"\t".repeat(room)),
@@ -62,7 +71,8 @@ fn unary_chain(rng: &mut Prng) -> Vec<u8> {
 }
 
 /// 195 to 203 tokens, the operators in between those of one or all levels.
-fn binary_chain(rng: &mut Prng) -> Vec<u8> {
+/// Without parentheses there are two fewer.
+fn binary_chain(rng: &mut Prng, place: Place) -> Vec<u8> {
     let level = rng.between(2, 16) as u8;
     let operators: Vec<&str> = NUMERIC
         .iter()
@@ -71,12 +81,11 @@ fn binary_chain(rng: &mut Prng) -> Vec<u8> {
         .map(|(operator, _)| *operator)
         .collect();
     let operands = rng.pick(&[&["0", "1"][..], &["0", "1", "2", "3"], &["1"]]);
-    let mut expr = format!("({}", rng.pick(operands));
+    let mut expr = rng.pick(operands).to_string();
     for _ in 0..rng.between(96, 100) {
         expr += &format!(" {} {}", rng.pick(&operators), rng.pick(operands));
     }
-    expr += ")";
-    expr.into_bytes()
+    enclosed(rng, expr, place)
 }
 
 /// 193 to 205 tokens of choices, each the last arm of the one before.
@@ -104,15 +113,15 @@ fn choices_in_the_middle(rng: &mut Prng) -> Vec<u8> {
 }
 
 /// A formula in about 16 parentheses, some of them one too many.
-fn deep(rng: &mut Prng, names: &Names) -> Vec<u8> {
+fn deep(rng: &mut Prng, names: &Names, place: Place) -> Vec<u8> {
     let pairs = rng.between(11, 17);
-    let inner = formula(rng, names, None);
+    let inner = formula(rng, names, None, place);
     [&b"(".repeat(pairs), &inner[..], &b")".repeat(pairs)].concat()
 }
 
 /// One operator, or two, on numbers at which answers change.
-fn edges(rng: &mut Prng) -> Vec<u8> {
-    let mut expr = format!("({}", rng.pick(&EDGES));
+fn edges(rng: &mut Prng, place: Place) -> Vec<u8> {
+    let mut expr = rng.pick(&EDGES).to_string();
     for _ in 0..rng.between(1, 2) {
         let (operator, _) = rng.pick(&NUMERIC);
         let operand = match rng.below(2) {
@@ -121,6 +130,5 @@ fn edges(rng: &mut Prng) -> Vec<u8> {
         };
         expr += &format!(" {operator} {operand}");
     }
-    expr += ")";
-    expr.into_bytes()
+    enclosed(rng, expr, place)
 }

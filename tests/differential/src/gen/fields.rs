@@ -3,7 +3,7 @@
 
 use oracle::Kind as Found;
 
-use super::formulas::{formula, number};
+use super::formulas::{formula, number, Place};
 use super::numbers::EDGES;
 use super::settings::{Kind, Names};
 use super::values;
@@ -14,9 +14,9 @@ pub fn expression(rng: &mut Prng, names: &Names) -> Vec<u8> {
     match rng.below(8) {
         0 | 1 => rng.pick(&EDGES).to_string().into_bytes(),
         2 => number(rng).into_bytes(),
-        3 => formula(rng, names, Some(Kind::Text)),
-        4 => formula(rng, names, Some(Kind::Wide)),
-        _ => values::any(rng, names),
+        3 => formula(rng, names, Some(Kind::Text), Place::Alone),
+        4 => formula(rng, names, Some(Kind::Wide), Place::Alone),
+        _ => values::any(rng, names, Place::Alone),
     }
 }
 

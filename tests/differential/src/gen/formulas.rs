@@ -28,8 +28,27 @@ pub const COMPARISONS: [(&str, u8); 12] = [
 
 const UNARY: [&str; 7] = ["!", "NOT", "not", "~", "+", "-", "!"];
 
+/// Where an expression is to be used. Bars outside parentheses are refused
+/// everywhere but in a condition (document 02, order 1).
+#[derive(Clone, Copy)]
+pub enum Place {
+    /// By itself or in a field.
+    Alone,
+    Condition,
+}
+
+impl Place {
+    /// Whether bars that are outside parentheses are to stay so.
+    pub fn leaves_bars(self, rng: &mut Prng) -> bool {
+        rng.one_in(match self {
+            Place::Alone => 12,
+            Place::Condition => 2,
+        })
+    }
+}
+
 /// An expression of this kind, or of any if none is given.
-pub fn formula(rng: &mut Prng, names: &Names, kind: Option<Kind>) -> Vec<u8> {
+pub fn formula(rng: &mut Prng, names: &Names, kind: Option<Kind>, place: Place) -> Vec<u8> {
     let size = match rng.below(20) {
         0 => rng.between(40, 110),
         1..=4 => 1,
@@ -46,7 +65,7 @@ pub fn formula(rng: &mut Prng, names: &Names, kind: Option<Kind>) -> Vec<u8> {
     };
     writer.expression(kind, size, CHOICE);
     let mut pieces = writer.out;
-    if bar_outside(&pieces) && !rng.one_in(12) {
+    if bar_outside(&pieces) && !place.leaves_bars(rng) {
         pieces.insert(0, b"(".to_vec());
         pieces.push(b")".to_vec());
     }

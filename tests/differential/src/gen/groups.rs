@@ -38,7 +38,10 @@ pub fn deep(rng: &mut Prng, names: &Names) -> Vec<Vec<u8>> {
     for _ in 0..depth {
         match writer.rng.below(truth + 1) {
             0 => writer.open(),
-            _ => writer.directive("if", b" 1".to_vec()),
+            _ => {
+                let text = writer.rng.pick(&[" 1", " 0 || 1"]);
+                writer.directive("if", text.into());
+            }
         }
         if writer.rng.one_in(12) {
             writer.branches(0);

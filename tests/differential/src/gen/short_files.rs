@@ -10,7 +10,7 @@ const LINES: [&str; 14] = [
     "!if !@",
     "!ifdef A",
     "!ifndef A",
-    "!elseif !0",
+    "!elseif 0 || 1",
     "!elif 0",
     "!elif @",
     "!else",

@@ -2,35 +2,35 @@
 
 use super::expressions::{self, damage};
 use super::extremes::extreme;
-use super::formulas::{formula, COMPARISONS, NUMERIC};
+use super::formulas::{formula, Place, COMPARISONS, NUMERIC};
 use super::numbers::EDGES;
 use super::settings::Names;
 use crate::prng::Prng;
 
 /// Any expression; most have a value.
-pub fn any(rng: &mut Prng, names: &Names) -> Vec<u8> {
+pub fn any(rng: &mut Prng, names: &Names, place: Place) -> Vec<u8> {
     match rng.below(12) {
         0 | 1 => expressions::any(rng),
         2 => {
-            let mut expr = formula(rng, names, None);
+            let mut expr = formula(rng, names, None, place);
             damage(rng, &mut expr);
             expr
         }
-        3 => extreme(rng, names),
-        _ => formula(rng, names, None),
+        3 => extreme(rng, names, place),
+        _ => formula(rng, names, None, place),
     }
 }
 
-/// One token of every class that the grammar distinguishes.
+/// One token of every class that the grammar distinguishes, and `||` beside
+/// `OR`, since only the one is a bar.
 #[rustfmt::skip]
-const SORTS: [&str; 19] = [
-    "0", "1", "'a'", "L'a'", "-", "!", "*", "<<", "<", "==", "&", "|", "AND", "XOR", "OR", "?", ":",
+const SORTS: [&str; 20] = [
+    "0", "1", "'a'", "L'a'", "-", "!", "*", "<<", "<", "==", "&", "|", "AND", "XOR", "OR", "||", "?", ":",
     "(", ")",
 ];
 
-/// Every list of up to four tokens, alone and with a `)` after it, since
-/// bars need a pair.
-pub fn short_lists() -> Vec<Vec<u8>> {
+/// Every list of up to four tokens, with a blank before each.
+pub fn token_lists() -> Vec<String> {
     let mut lists = vec![String::new()];
     let mut from = 0;
     for _ in 0..4 {
@@ -42,6 +42,13 @@ pub fn short_lists() -> Vec<Vec<u8>> {
         }
         from = to;
     }
+    lists
+}
+
+/// Every list of up to four tokens, alone and with a `)` after it, since
+/// bars need a pair.
+pub fn short_lists() -> Vec<Vec<u8>> {
+    let mut lists = token_lists();
     let closed: Vec<String> = lists.iter().map(|list| format!("{list} )")).collect();
     lists.extend(closed);
     lists.into_iter().map(String::into_bytes).collect()
