@@ -2,9 +2,8 @@
 -- or for its text, and the end of the file with 21. Assumes nothing.
 use Prim.Native.Nat.{ℕ}
 use native.Mathlib.Omega.{arith}
-use mathlib.Core.Path.{_≡_, refl, sym, _∙_}
+use mathlib.Core.Path.{_≡_, refl}
 use mathlib.Core.Logic.{_⊎_, inl, inr}
-use mathlib.Core.Bool.{Bool, true, false, false≢true}
 use mathlib.Core.List.{List}
 use lib.ListN.{length}
 use lib.Dec.{ltb}
@@ -13,24 +12,21 @@ use Rattle.units.specs.declared.Dialect.{Dialect}
 use Rattle.text.proofs.Laws.{pick-case}
 use Rattle.settings.specs.Table.{wellFormed}
 use Rattle.line.specs.Lines.{lines}
-use Rattle.select.specs.Select.{MAX-FILE, MAX-LINES, Result, accepted, refused, run, start, selection}
+use Rattle.select.specs.Select.{MAX-FILE, MAX-LINES, Result, refused, run, start, selection}
 use Rattle.blocks.specs.Refused.{Refuses, long, unknown, stray, deep, faulty, RefusedAt, RefusedAtEnd}
-use Rattle.blocks.proofs.TextFaults.{fromText}
+use Rattle.blocks.proofs.TextFaults.{not-of-bars}
 use Rattle.blocks.proofs.FaultNumbers.{fault-from-text}
 use Rattle.blocks.proofs.Refused.{refused-by-blocks}
 
 abbrev NotBar : ℕ → Type 0
 NotBar r = r ≡ BAR-OUTSIDE → ⊥
 
-text-not-bar : (r : ℕ) → fromText r ≡ true → NotBar r
-text-not-bar r h e = let z : fromText BAR-OUTSIDE ≡ true = rw e at h in false≢true z
-
 reason-not-bar : (t : List ℕ) (ls : List (List ℕ)) (l : List ℕ) (δ : Dialect) {r : ℕ} → Refuses t ls l δ r → NotBar r
 reason-not-bar t ls l δ (long h) e = omega arith
 reason-not-bar t ls l δ (unknown h u) e = omega arith
 reason-not-bar t ls l δ (stray h u b) e = omega arith
 reason-not-bar t ls l δ (deep h o d) e = omega arith
-reason-not-bar t ls l δ (faulty {r} more bs d k limit meant) e = text-not-bar r (fault-from-text t δ bs r (length ls) meant) e
+reason-not-bar t ls l δ (faulty {r} more bs d k limit meant) e = not-of-bars r (fault-from-text t δ bs r (length ls) meant) e
 
 module _ (f t : List ℕ) (δ : Dialect) (n : ℕ) where
   run-not-bar : run t 1 start (lines f) δ ≡ refused BAR-OUTSIDE n → ⊥

@@ -3,7 +3,7 @@
 use Prim.Native.Nat.{ℕ, _≤_}
 use native.Mathlib.Omega.{arith}
 use mathlib.Core.Path.{_≡_, refl, sym, _∙_}
-use mathlib.Core.Bool.{Bool, true, false, not, _&&_, _||_, false≢true}
+use mathlib.Core.Bool.{Bool, true, false, not, _||_, false≢true}
 use mathlib.Core.List.{List}
 use lib.ListN.{drop}
 use lib.Dec.{eqb}
@@ -36,6 +36,9 @@ not-of-lines r h a b =
     let other = ne-eqb r CONDITION-VALUE (λ e. omega arith) in
     let another = ne-eqb r TEXT-MALFORMED (λ e. omega arith) in
     false≢true (sym (rw (high, low, other, another)) ∙ h)
+
+pub not-of-bars : (r : ℕ) → fromText r ≡ true → r ≡ BAR-OUTSIDE → ⊥
+not-of-bars r h e = let z : fromText BAR-OUTSIDE ≡ true = rw e at h in false≢true z
 
 abbrev pub InCondition : Condition → Type 0
 InCondition (Holds n) = Unit
@@ -89,4 +92,4 @@ never-own t δ d s r a b e = not-of-lines r (numbered t δ d s r e) a b
 
 -- no directive is refused for a bar
 pub never-bar : (t : List ℕ) (d : Directive) (s : List ℕ) (δ : Dialect) → evaluate t d s δ ≡ Refused BAR-OUTSIDE → ⊥
-never-bar t d s δ e = false≢true (numbered t δ d s BAR-OUTSIDE e)
+never-bar t d s δ e = not-of-bars BAR-OUTSIDE (numbered t δ d s BAR-OUTSIDE e) refl
