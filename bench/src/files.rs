@@ -19,11 +19,11 @@ pub fn both() -> [String; 2] {
     [1, 2].map(|part| file(LINES / part, BYTES / part))
 }
 
-/// A file in a few words.
-pub fn described(file: &str) -> String {
+/// A file and how many settings there are, in a few words.
+pub fn described(file: &str, set: usize) -> String {
     let directives = file.lines().filter(|line| line.starts_with('!')).count();
     format!(
-        "{} KiB, {} lines, {directives} directives, {SET} settings",
+        "{} KiB, {} lines, {directives} directives, {set} settings",
         file.len() / 1_024,
         file.lines().count()
     )

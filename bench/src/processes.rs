@@ -46,7 +46,7 @@ pub fn time(command: &Path) {
     for file in files::both() {
         folder.write("file.dsc", file.as_bytes());
         folder.write("file.c", files::in_c(&file).as_bytes());
-        println!("whole processes: {}", files::described(&file));
+        println!("whole processes: {}", files::described(&file, files::SET));
         check(&tools, folder.path());
         time_all(&tools, folder.path());
     }

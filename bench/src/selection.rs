@@ -11,47 +11,56 @@ use crate::settings;
 use crate::timing::{compare, ratio};
 
 pub fn time() {
-    let table = &settings::table()[..files::SET * RECORD_BYTES];
-    let [whole, half] = files::both().map(|file| {
-        let what = format!("selection: {}", files::described(&file));
-        time_one(&what, file.as_bytes(), table)
-    });
+    let [whole, half] = files::both().map(|file| time_one(&file, &first(files::SET)));
     println!(
         "{:<62} proved {:>9.2}, oracle {:>12.2}",
         "the whole file's time by the half's",
         ratio(whole.0, half.0),
         ratio(whole.1, half.1)
     );
+    let [file, _] = files::both();
+    time_one(&file, &first(8));
+    time_one(&file, &settings::spread(files::SET));
 }
 
-/// The selection of the larger file, once.
-pub fn once() {
+/// The first records of the table.
+fn first(set: usize) -> Vec<u8> {
+    settings::table()[..set * RECORD_BYTES].to_vec()
+}
+
+/// The selection of the larger file over this many settings, once.
+pub fn once(set: usize) {
     let [file, _] = files::both();
-    select(&file);
+    select(&file, &first(set));
+}
+
+/// The selection of the larger file over ten times as many settings as it uses, once.
+pub fn once_spread() {
+    let [file, _] = files::both();
+    select(&file, &settings::spread(files::SET));
 }
 
 /// The selection of the smaller file, once.
 pub fn once_half() {
     let [_, file] = files::both();
-    select(&file);
+    select(&file, &first(files::SET));
 }
 
 /// The selection of the file whose first branches are all taken, once.
 pub fn once_calm() {
-    select(&files::calm());
+    select(&files::calm(), &first(files::SET));
 }
 
-fn select(file: &str) {
+fn select(file: &str, table: &[u8]) {
     let mut marks = vec![0; MAX_LINES];
-    let outcome = proved(
-        file.as_bytes(),
-        &settings::table()[..files::SET * RECORD_BYTES],
-        &mut marks,
-    );
+    let outcome = proved(file.as_bytes(), table, &mut marks);
     assert_eq!(black_box(outcome).0, 0);
 }
 
-fn time_one(what: &str, file: &[u8], table: &[u8]) -> (Duration, Duration) {
+fn time_one(file: &str, table: &[u8]) -> (Duration, Duration) {
+    let set = table.len() / RECORD_BYTES;
+    let what = &format!("selection: {}", files::described(file, set));
+    let file = file.as_bytes();
     let (mut marks, mut others) = (vec![0; MAX_LINES], vec![0; MAX_LINES]);
     check(file, table, &mut marks, &mut others);
     compare(

@@ -1,5 +1,7 @@
 //! The settings of the benchmark: 500 numbers, as a table, and some of them as text that commands read.
 
+use std::iter;
+
 use bindings::limit::RECORD_BYTES;
 
 pub fn names() -> Vec<String> {
@@ -15,6 +17,15 @@ pub fn table() -> Vec<u8> {
         .iter()
         .enumerate()
         .flat_map(|(i, name)| record(name, i as u64))
+        .collect()
+}
+
+/// The first settings, each with nine more after it that no file uses: ten times as many records, those in use spread among them.
+pub fn spread(set: usize) -> Vec<u8> {
+    let others = |i| (1..10).map(move |other| record(&format!("{}_{other}", name(i)), 0));
+    (0..set)
+        .flat_map(|i| iter::once(record(&name(i), i as u64)).chain(others(i)))
+        .flatten()
         .collect()
 }
 

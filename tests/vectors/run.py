@@ -1,5 +1,5 @@
 """Runs the vectors against the shared library: run.py [NAME]... A vector's name is its part and its number, as `value:7`, or its part
-and its input, as `value:1 << 64`; a part alone (tokens, places, table, lookup, malformed, value, field, selection) is all of it. The
+and its input, as `value:1 << 64`; a part alone (tokens, places, table, lookup, unread, malformed, value, field, selection) is all of it. The
 last line says how many passed and how many failed."""
 import collections
 import os
@@ -8,9 +8,11 @@ from functools import partial
 
 import evaluation
 import field
+import positions
 import selection
 import tables
 import tokens
+import unread
 
 sys.path.insert(0, os.path.join(os.path.dirname(os.path.abspath(__file__)), ".."))
 import library
@@ -30,6 +32,12 @@ def selection_answer(refusal, line, marks, count, room):
     return 0, (0, len(marks), count), marks + library.unmarked(room)[len(marks):]
 
 
+def hardly_read():
+    """The answer to a lookup of a very long name, and whether most of the name was left unread."""
+    answer, touched = unread.lookup(library.lookup, tables.record(b"A" * 64, tables.NUMBER, 1))
+    return answer, touched < 8
+
+
 def vectors():
     """Every vector: its part, its input, the other arguments in words, the call and the answer that it has to give."""
     for expression, refusal, read in tokens.VECTORS:
@@ -38,8 +46,9 @@ def vectors():
         yield "places", expression, "", lambda: [token[1] for token in library.tokens(expression)[1]], places
     for table, good in tables.TABLES:
         yield "table", b"", "%d bytes" % len(table), partial(library.table, table), 0 if good else 1
-    for table, name, found in tables.LOOKUPS:
+    for table, name, found in tables.LOOKUPS + positions.LOOKUPS:
         yield "lookup", name, "%d bytes of table" % len(table), partial(library.lookup, table, name), (0, found)
+    yield "unread", b"", "a name of 64 MiB", hardly_read, ((0, (tables.MISSING, 0, 0)), True)
     for table, good in tables.TABLES:
         if not good:
             yield "malformed", b"", "%d bytes" % len(table), partial(library.lookup, table, b"A"), (1, (library.VALUE,) * 3)

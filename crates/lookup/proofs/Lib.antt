@@ -1,3 +1,4 @@
 pub mod RecordUnderName
 pub mod Within
 pub mod Records
+pub mod Halved

@@ -1,42 +1,52 @@
 -- The setting under a name, one record at a time from the front. Assumes nothing.
-use Prim.Native.Nat.{ℕ, _+_, _-_, _≤_, _<_}
+use Prim.Native.Nat.{ℕ, zero, suc, _+_, _*_, _≤_, _<_}
 use native.Mathlib.Omega.{arith}
 use mathlib.Core.Path.{_≡_, refl}
 use mathlib.Core.Bool.{Bool, true, false}
 use mathlib.Core.List.{List, [], _∷_}
-use lib.ListN.{length, take, drop}
+use lib.ListN.{length, getD}
 use lib.Dec.{eqb, leb}
 use borrow.Author.Tests.{leb-true}
 use Rattle.text.specs.Bytes.{pick}
-use Rattle.text.specs.Runs.{span}
 use Rattle.text.specs.Order.{equal}
-use Rattle.text.specs.declared.runs.Set.the-variants.{NonZero}
-use Rattle.text.proofs.Laws.{pick-case, part-from, zero-unlike}
-use Rattle.settings.specs.Table.{nameField, unpadded, kindByte, lengthByte}
-use Rattle.settings.proofs.TableRecords.{rest, next, none, field}
-use Rattle.lookup.specs.Setting.{setTo, notSet, clipped, valueAt, settingUnderAt, Within}
+use Rattle.text.proofs.Laws.{pick-case}
+use Rattle.text.proofs.Orders.{same-equal, differs}
+use Rattle.settings.specs.Table.{nameOf, kindByte, lengthByte}
+use Rattle.halving.specs.Halving.{nameAt}
+use Rattle.lookup.specs.Setting.{setTo, notSet, clipped, valueAt, settingUnderAt, recordAmong, Within}
 
--- the record under a name
-module _ (t n : List ℕ) (at : ℕ) where
-  pub under-hit : at + 128 ≤ length t → equal (unpadded (take (at + 64 - at) (drop at t))) n ≡ true
-      → settingUnderAt at (rest t at) n ≡ setTo (valueAt at (take (at + 128 - at) (drop at t)))
-  unfolding settingUnderAt
-  under-hit h e = rw (next t at h, field t at, e, ← part-from t at 128)
-
-  pub under-miss : at + 128 ≤ length t → equal (unpadded (take (at + 64 - at) (drop at t))) n ≡ false → settingUnderAt at (rest t at) n ≡
-      settingUnderAt (at + 128) (rest t (at + 128)) n
-  unfolding settingUnderAt
-  under-miss h e = rw (next t at h, field t at, e)
-
-  pub under-ends : length t < at + 128 → settingUnderAt at (rest t at) n ≡ notSet
-  unfolding settingUnderAt
-  under-ends h = rw (none t at h)
-
--- no record has a name with a zero byte
-pub under-zero : (at : ℕ) (rs : List (List ℕ)) (n : List ℕ) → (span NonZero n ≡ length n → ⊥) → settingUnderAt at rs n ≡ notSet
+-- the first record with the name has the setting
+pub under-found : (rs : List (List ℕ)) (n : List ℕ) (at i : ℕ) → i < length rs → nameAt rs i ≡ n → ((j : ℕ) → j < i → nameAt rs j ≡ n → ⊥)
+    → settingUnderAt at rs n ≡ setTo (valueAt (at + 128 * i) (getD rs i []))
 unfolding settingUnderAt
-under-zero at [] n z = refl
-under-zero at (r ∷ rs) n z = rw (zero-unlike (nameField r) n z, under-zero (at + 128) rs n z)
+under-found [] n at i h e d = absurd (omega arith)
+under-found (r ∷ rs) n at zero h e d =
+    let z : at + 128 * 0 ≡ at = omega arith in
+    rw (e, same-equal n, z)
+under-found (r ∷ rs) n at (suc i) h e d =
+    let z : at + 128 * suc i ≡ at + 128 + 128 * i = omega arith in
+    rw (differs (nameOf r) n (d 0 (omega arith)), z)
+    (under-found rs n (at + 128) i (omega arith) e (λ j l. d (suc j) (omega arith)))
+
+pub among-found : (rs : List (List ℕ)) (n : List ℕ) (i : ℕ) → i < length rs → nameAt rs i ≡ n → ((j : ℕ) → j < i → nameAt rs j ≡ n → ⊥)
+    → recordAmong rs n ≡ getD rs i []
+unfolding recordAmong
+among-found [] n i h e d = absurd (omega arith)
+among-found (r ∷ rs) n zero h e d = rw (e, same-equal n)
+among-found (r ∷ rs) n (suc i) h e d =
+    rw (differs (nameOf r) n (d 0 (omega arith))) (among-found rs n i (omega arith) e (λ j l. d (suc j) (omega arith)))
+
+-- no record has the name
+pub under-none : (rs : List (List ℕ)) (n : List ℕ) (at : ℕ) → ((j : ℕ) → j < length rs → nameAt rs j ≡ n → ⊥) → settingUnderAt at rs n ≡ notSet
+unfolding settingUnderAt
+under-none [] n at d = refl
+under-none (r ∷ rs) n at d =
+    rw (differs (nameOf r) n (d 0 (omega arith))) (under-none rs n (at + 128) (λ j l. d (suc j) (omega arith)))
+
+pub among-none : (rs : List (List ℕ)) (n : List ℕ) → ((j : ℕ) → j < length rs → nameAt rs j ≡ n → ⊥) → recordAmong rs n ≡ []
+unfolding recordAmong
+among-none [] n d = refl
+among-none (r ∷ rs) n d = rw (differs (nameOf r) n (d 0 (omega arith))) (among-none rs n (λ j l. d (suc j) (omega arith)))
 
 -- a record's string is within the record
 pub clipped-most : (n : ℕ) → clipped n ≤ 56

@@ -4,8 +4,8 @@ use native.Mathlib.Omega.{arith}
 use mathlib.Core.Path.{_≡_, refl, sym, _∙_}
 use mathlib.Core.Bool.{Bool, true, false, _&&_, _||_, false≢true}
 use mathlib.Core.List.{List, [], _∷_, map}
-use lib.ListN.{length, take, drop, length-drop}
-use lib.Seq.{drop-drop, take-take, length-take-le}
+use lib.ListN.{length, take, drop}
+use lib.Seq.{drop-drop, take-take}
 use lib.Dec.{eqb, ltb, leb, lit≤}
 use borrow.Author.Tests.{ltb-true, ltb-false, eqb-true, leb-true}
 use Rattle.text.specs.Bytes.{pick}
@@ -24,9 +24,6 @@ rest t at = recordsIn ((length t - at) / 128) (drop at t)
 -- at the front these are all records
 pub rest-all : (t : List ℕ) → records t ≡ rest t 0
 rest-all t = let e : length t - 0 ≡ length t = omega arith in rw e
-
-pub record-length : (t : List ℕ) (at : ℕ) → at + 128 ≤ length t → length (take (at + 128 - at) (drop at t)) ≡ 128
-record-length t at h = rw (part-from t at 128) (length-take-le 128 (drop at t) (omega (arith, length-drop at t)))
 
 module _ (t : List ℕ) (at : ℕ) where
   pub next : at + 128 ≤ length t → rest t at ≡ take 128 (drop at t) ∷ rest t (at + 128)

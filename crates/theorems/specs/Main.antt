@@ -6,13 +6,22 @@ use Prim.Native.Nat.{ℕ, _≤_, _<_}
 use mathlib.Core.Path.{_≡_}
 use mathlib.Core.Logic.{_↔_, _⊎_}
 use mathlib.Core.Bool.{true, false, not, _&&_}
-use mathlib.Core.List.{List, map}
+use mathlib.Core.List.{List, [], map}
 use lib.ListN.{length, getD, take}
 use Rattle.units.specs.Refusals.{TABLE-MALFORMED, NO-DERIVATION, BAR-OUTSIDE, TEXT-MALFORMED}
 use Rattle.units.specs.Dialects.{STRICT, inDirectives}
 use Rattle.units.specs.declared.Refusal.{Refusal}
 use Rattle.units.specs.declared.Dialect.{Dialect}
-use Rattle.settings.specs.Table.{wellFormed}
+use Rattle.text.specs.Bytes.{pick}
+use Rattle.settings.specs.Table.{records, wellFormed}
+use Rattle.settings.proofs.Ordered.{in-order}
+use Rattle.halving.specs.Halving.{nameAt, halving, Finds}
+use Rattle.halving.proofs.Ascending.{ascends}
+use Rattle.halving.proofs.Finds.{finds, one-record}
+use Rattle.halving.proofs.RoundsBounded.{at-most-ten, first-takes-ten}
+use Rattle.halving.proofs.FullTable.{full-table}
+use Rattle.lookup.specs.Setting.{recordUnder}
+use Rattle.lookup.proofs.Halved.{halved-record}
 use Rattle.token.specs.Tokens.{Token, reading}
 use Rattle.token.specs.declared.scan.Ending.the-variants.{Complete, Refused}
 use Rattle.grammar.specs.Grammar.{Tree, expression, Derives}
@@ -116,6 +125,32 @@ expression-has-no-line = without-line
 
 pub field-has-no-line : (m : Memory) (datum : ℕ) (buffer : List ℕ) (δ : Dialect) → lineOfField (fieldOf m datum buffer δ .answer) ≡ 0
 field-has-no-line = field-without-line
+
+-- LOOKUP BY HALVING (document 02, order 4): `lookup` takes the record that `halving` finds, after as many rounds, each with one name
+
+-- At most one record of a well-formed table has a name.
+pub one-record-under-a-name : (t : List ℕ) → wellFormed t ≡ true
+    → (i j : ℕ) → i < length (records t) → j < length (records t) → nameAt (records t) i ≡ nameAt (records t) j → i ≡ j
+one-record-under-a-name t h = one-record (records t) (ascends t (in-order t h))
+
+-- Halving finds it, for any bytes as the name, or tells that no record has the name; so it finds the record under the name.
+pub halving-finds : (t n : List ℕ) → wellFormed t ≡ true → Finds (records t) n (halving (records t) n)
+halving-finds t n h = finds (records t) n (ascends t (in-order t h))
+
+pub halving-finds-the-record : (t n : List ℕ) → wellFormed t ≡ true
+    → recordUnder t n ≡ pick (halving (records t) n .there) (getD (records t) (halving (records t) n .at) []) []
+halving-finds-the-record t n h = halved-record t n (in-order t h)
+
+-- It takes at most 10 rounds among at most 512 records, in any order. The first record of a full table takes 10, and there is a full table.
+pub ten-rounds-at-most : (rs : List (List ℕ)) (n : List ℕ) → length rs ≤ 512 → halving rs n .rounds ≤ 10
+ten-rounds-at-most = at-most-ten
+
+pub ten-rounds-reached : (t : List ℕ) → wellFormed t ≡ true → length (records t) ≡ 512
+    → halving (records t) (nameAt (records t) 0) ≡ record { there = true; at = 0; rounds = 10 }
+ten-rounds-reached t h = first-takes-ten (records t) (ascends t (in-order t h))
+
+pub full-table-exists : (t : List ℕ) × (wellFormed t ≡ true) × (length (records t) ≡ 512)
+full-table-exists = full-table
 
 -- THE SELECTION OF LINES, by the blocks of a file
 

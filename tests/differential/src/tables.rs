@@ -4,6 +4,7 @@ use oracle::table::RECORD;
 use oracle::Setting;
 
 use crate::crash;
+use crate::gen::searches::{self, Search};
 use crate::gen::tables as gen;
 use crate::lent::{Input, Shown};
 use crate::library;
@@ -41,19 +42,18 @@ impl Subject for Tables {
         for table in gen::corners() {
             compare(&table, &[b"A".to_vec(), b"B".to_vec()], 4, tally)?;
         }
+        for (search, pattern) in searches::all().zip((0..).step_by(0x103)) {
+            compare_search(&search, pattern, tally).map_err(|mut mismatch| {
+                mismatch.what += &format!(" ({})", search.what);
+                mismatch
+            })?;
+        }
         Ok(())
     }
 
     fn case(&self, rng: &mut Prng, tally: &mut Tally) -> Result<(), Mismatch> {
         let table = gen::valid(rng);
-        if !oracle::is_well_formed(&table) {
-            return Err(Mismatch {
-                what: "the oracle refuses a table that was made well formed".to_string(),
-                input: write_table(&table),
-                oracle: "1".to_string(),
-                library: "not called".to_string(),
-            });
-        }
+        check_oracle_takes(&table)?;
         let names = gen::lookups(rng, &table);
         compare(&table, &names, rng.next(), tally)?;
         for (damage, damaged) in gen::damaged(rng, &table) {
@@ -66,6 +66,44 @@ impl Subject for Tables {
         }
         Ok(())
     }
+}
+
+fn check_oracle_takes(table: &[u8]) -> Result<(), Mismatch> {
+    if oracle::is_well_formed(table) {
+        return Ok(());
+    }
+    Err(Mismatch {
+        what: "the oracle refuses a table that was made well formed".to_string(),
+        input: write_table(table),
+        oracle: "1".to_string(),
+        library: "not called".to_string(),
+    })
+}
+
+/// The oracle searches by halving too, so it is compared with the list of names first.
+fn check_oracle_finds(search: &Search, name: &[u8]) -> Result<(), Mismatch> {
+    let index = search.names.iter().position(|known| known == name);
+    let expected = index.map_or(numbers(None), |index| search.settings[index]);
+    let given = numbers(oracle::lookup(&search.table, name));
+    if given == expected {
+        return Ok(());
+    }
+    Err(Mismatch {
+        what: format!("the oracle does not give the setting that was made, {expected:?}"),
+        input: write_lookup(&search.table, name),
+        oracle: format!("{given:?}"),
+        library: "not called".to_string(),
+    })
+}
+
+/// Compares the lookups of all names of a table and of their neighbours.
+fn compare_search(search: &Search, pattern: u64, tally: &mut Tally) -> Result<(), Mismatch> {
+    check_oracle_takes(&search.table)?;
+    let names = search.lookups();
+    for name in &names {
+        check_oracle_finds(search, name)?;
+    }
+    compare(&search.table, &names, pattern, tally)
 }
 
 /// Compares the check of a table and some lookups in it.
@@ -154,7 +192,7 @@ impl<'a> Case<'a> {
     }
 
     fn write(&self, name: &[u8]) -> String {
-        format!("name \"{}\" in {}", escaped(name), write_table(self.table))
+        write_lookup(self.table, name)
     }
 }
 
@@ -166,6 +204,10 @@ fn numbers(setting: Option<Setting>) -> [u64; 3] {
         Some(Setting::Wide { start, len }) => [2, start as u64, len as u64],
         None => [255, 0, 0],
     }
+}
+
+fn write_lookup(table: &[u8], name: &[u8]) -> String {
+    format!("name \"{}\" in {}", escaped(name), write_table(table))
 }
 
 pub fn write_table(table: &[u8]) -> String {

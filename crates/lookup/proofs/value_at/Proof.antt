@@ -1,5 +1,9 @@
 -- The kind decides.
+use native.Mathlib.Omega.{arith}
+use lib.Dec.{lit≤}
 use borrow.Author.Tests.{eq-eqb, ne-eqb}
+use Rattle.text.proofs.Laws.{part-length}
+use Rattle.text.proofs.EightBytes.{number-in-part}
 use Rattle.lookup.specs.Setting.{valueAt}
 use borrow.Author.Needs.{needs}
 use Rattle.lookup.proofs.value_at.Statement.{statement}
@@ -8,15 +12,27 @@ use Rattle.lookup.proofs.value_at.Tie as tie
 shared-slice-read-kind : tie.Need-shared-slice-read-kind
 shared-slice-read-kind c = search needs
 
-number-in-requires : tie.Need-number-in-requires
-number-in-requires c κs = search needs
+sub-number : tie.Need-sub-number
+sub-number c = search needs
+
+part-number-start : tie.Need-part-number-start
+part-number-start c = search needs
+
+part-number-end : tie.Need-part-number-end
+part-number-end c = omega arith
+
+number-requires : tie.Need-number-requires
+number-requires c κs = part-length (c .before .before .before .before .args .r .now) 72 8 (omega arith)
 
 returns : tie.Need-returns
 unfolding valueAt
-returns c = rw (eq-eqb _ _ (c .before .if1 .taken), ← c .number-in .ensures)
+returns c =
+    let at-if1 = c .before .before in
+    let start = at-if1 .before .before .before in
+    rw (eq-eqb _ _ (at-if1 .if1 .taken), number-in-part 8 0 72 8 (start .args .r .now) (lit≤ tt), c .number .ensures .0)
 
-add-t11 : tie.Need-add-t11
-add-t11 c = search needs
+add-t15 : tie.Need-add-t15
+add-t15 c = search needs
 
 shared-slice-read-content-length : tie.Need-shared-slice-read-content-length
 shared-slice-read-content-length c = search needs
@@ -43,9 +59,12 @@ value-at-spec =
     tie.close
     (tie.spec
     shared-slice-read-kind
-    number-in-requires
+    sub-number
+    part-number-start
+    part-number-end
+    number-requires
     returns
-    add-t11
+    add-t15
     shared-slice-read-content-length
     content-length-requires
     returns-2

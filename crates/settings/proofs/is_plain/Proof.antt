@@ -1,6 +1,7 @@
 -- Invariant: the records before the index are plain, so the others decide.
 use mathlib.Core.Path.{ap, _≡_, sym, _∙_}
-use Rattle.settings.proofs.TableRecords.{rest-all, record-length, rest, plain-stops, plain-goes, plain-ends}
+use Rattle.text.proofs.Laws.{part-length}
+use Rattle.settings.proofs.TableRecords.{rest-all, rest, plain-stops, plain-goes, plain-ends}
 use borrow.Author.Tests.{not-true, not-false}
 use native.Mathlib.Omega.{arith}
 use borrow.Author.Needs.{needs}
@@ -38,7 +39,7 @@ is-plain-record-requires : tie.Need-is-plain-record-requires Inv-loop μ-loop
 is-plain-record-requires c κs =
     let loop = c .before .before .loop in
     let start = c .before .before .before .before .args in
-    record-length (start .table .now) (loop .at) (omega arith)
+    part-length (start .table .now) (loop .at) 128 (omega arith)
 
 returns : tie.Need-returns Inv-loop μ-loop
 returns c =

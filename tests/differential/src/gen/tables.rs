@@ -5,6 +5,8 @@ use std::collections::BTreeSet;
 use oracle::table::{CONTENT, NAME, RECORD};
 
 use super::names::{macro_name, pcd_name, NUMBERS, TEXTS, WIDES};
+use super::neighbours;
+use super::searches::{LARGE, SMALL};
 use crate::prng::Prng;
 
 const KIND_AT: usize = 64;
@@ -20,13 +22,16 @@ pub fn record(name: &[u8], kind: u8, content: &[u8]) -> [u8; RECORD] {
     record
 }
 
-/// A well formed table of 0 to 20 records, or now and then a large one.
+/// A well formed table of 0 to 20 records, or now and then a large one. The
+/// sizes of the fixed searches come more often than others.
 pub fn valid(rng: &mut Prng) -> Vec<u8> {
     let count = match rng.below(60) {
         0 => rng.between(500, 512),
-        1 => rng.pick(&[40, 100, 255, 256, 257, 511, 512]),
-        2..=5 => 0,
-        6..=9 => 1,
+        1 => rng.between(21, 499),
+        2 => rng.pick(&LARGE),
+        3..=5 => 0,
+        6..=8 => 1,
+        9..=20 => rng.pick(&SMALL),
         _ => rng.below(21),
     };
     let mut names = BTreeSet::new();
@@ -257,7 +262,31 @@ pub fn lookups(rng: &mut Prng, table: &[u8]) -> Vec<Vec<u8>> {
     names.push(present.to_ascii_lowercase());
     names.push(b"\0".repeat(rng.between(1, 65)));
     names.push((0..rng.below(70)).map(|_| rng.byte()).collect());
+    for _ in 0..2 {
+        let centre = match records {
+            [] => name(rng),
+            _ => name_in(&rng.pick(records)).to_vec(),
+        };
+        beside(rng, &centre, &mut names);
+    }
     names
+}
+
+/// A name, the closest ones on both sides, and one of each other kind of neighbour.
+fn beside(rng: &mut Prng, centre: &[u8], names: &mut Vec<Vec<u8>>) {
+    names.push(centre.to_vec());
+    names.extend(neighbours::closest(centre));
+    let mut kinds = vec![
+        neighbours::near(centre),
+        neighbours::with_zeros(centre),
+        neighbours::prolonged(centre),
+    ];
+    if rng.one_in(100) {
+        kinds.push(neighbours::very_long(centre));
+    }
+    for mut kind in kinds {
+        names.push(kind.swap_remove(rng.below(kind.len())));
+    }
 }
 
 /// Tables right at the limits, most of them of a single record.

@@ -36,7 +36,7 @@ returns-2 c =
     let loop = c .before .before .before .before .loop in
     let start = c .before .before .before .before .before .before .args in
     let a = (start) in
-    sym (unlike-at (a .a .now) (a .b .now) ((loop .i) - 1) (omega arith) (omega arith) (c .if2 .taken))
+    sym (unlike-at (a .a .now) (a .b .now) ((loop .i) - 1) (c .if2 .taken))
 
 loop-less : tie.Need-loop-less Inv-loop μ-loop
 loop-less c = omega arith

@@ -1,0 +1,7 @@
+pub mod Beside
+pub mod RecordsAt
+pub mod Steps
+pub mod Ascending
+pub mod Finds
+pub mod RoundsBounded
+pub mod FullTable

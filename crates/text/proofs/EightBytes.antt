@@ -1,0 +1,48 @@
+-- Bytes are equal exactly if the numbers in them are. Assumes nothing.
+use Prim.Native.Nat.{ℕ, zero, suc, _+_, _*_, _≤_, _<_}
+use native.Mathlib.Omega.{arith}
+use native.Mathlib.Nat.{zero-add}
+use mathlib.Core.Path.{_≡_, refl, sym, ap, _∙_}
+use mathlib.Core.List.{List}
+use mathlib.Core.Bool.{Bool, true, false, false≢true}
+use lib.ListN.{length, getD, take, drop}
+use lib.Seq.{ext-getD, getD-take, getD-drop}
+use lib.Dec.{eqb}
+use borrow.Author.Tests.{eq-eqb, ne-eqb}
+use Rattle.text.specs.Order.{compared, isEqual, equal}
+use Rattle.text.specs.Numbers.{littleEndian, AreBytes}
+use Rattle.text.proofs.Orders.{same-equal, equal-same}
+use Rattle.text.specs.declared.order.Order.{Order}
+use Rattle.text.specs.declared.order.Order.the-variants.{Less, Equal, Greater}
+
+-- the bytes of a number, one by one
+same-bytes : (n i : ℕ) (a b : List ℕ) → AreBytes n i a → AreBytes n i b → littleEndian n i a ≡ littleEndian n i b
+    → (k : ℕ) → k < n → getD a (i + k) 0 ≡ getD b (i + k) 0
+unfolding littleEndian
+same-bytes zero i a b p q e k h = absurd (omega arith)
+same-bytes (suc n) i a b p q e zero h = let z : i + 0 ≡ i = omega arith in rw z (omega (arith, p .0, q .0, e))
+same-bytes (suc n) i a b p q e (suc k) h =
+    let z : i + suc k ≡ suc i + k = omega arith in
+    rw z (same-bytes n (suc i) a b (p .1) (q .1) (omega (arith, p .0, q .0, e)) k (omega arith))
+
+module _ (a b : List ℕ) (n : ℕ) (la : length a ≡ n) (lb : length b ≡ n) (p : AreBytes n 0 a) (q : AreBytes n 0 b) where
+  same-lists : littleEndian n 0 a ≡ littleEndian n 0 b → a ≡ b
+  same-lists e =
+      ext-getD 0 a b (la ∙ sym lb)
+      (λ i h. let z : 0 + i ≡ i = omega arith in rw (← z) (same-bytes n 0 a b p q e i (omega (arith, h, la))))
+
+  pub equal-by-numbers : eqb (littleEndian n 0 a) (littleEndian n 0 b) ≡ equal a b
+  equal-by-numbers = by (compared a b) refl
+    where
+      by : (o : Order) → compared a b ≡ o → eqb (littleEndian n 0 a) (littleEndian n 0 b) ≡ isEqual o
+      by Less e = ne-eqb _ _ (λ w. false≢true (ap isEqual (sym e ∙ ap (compared a) (sym (same-lists w)) ∙ same-equal a)))
+      by Equal e = eq-eqb _ _ (ap (littleEndian n 0) (equal-same a b e))
+      by Greater e = ne-eqb _ _ (λ w. false≢true (ap isEqual (sym e ∙ ap (compared a) (sym (same-lists w)) ∙ same-equal a)))
+
+-- the number in the bytes of a part
+pub number-in-part : (n i k m : ℕ) (s : List ℕ) → i + n ≤ m → littleEndian n (k + i) s ≡ littleEndian n i (take m (drop k s))
+unfolding littleEndian
+number-in-part zero i k m s h = refl
+number-in-part (suc n) i k m s h =
+    let e : suc (k + i) ≡ k + suc i = omega arith in
+    rw (getD-take m (drop k s) i 0 (omega arith), getD-drop k s i 0, e, number-in-part n (suc i) k m s (omega arith))
