@@ -1,14 +1,14 @@
--- The names of an ordered table ascend, at any two places. Assumes nothing.
+-- An ordered table has at most 512 records, and their names ascend, at any two places. Assumes nothing.
 use Prim.Native.Nat.{ℕ, zero, suc, _*_, _/_, _%_, _≤_, _<_}
 use native.Mathlib.Omega.{arith}
 use mathlib.Core.Path.{_≡_, refl, sym, ap, _∙_}
 use mathlib.Core.Logic.{_⊎_, inl, inr}
 use mathlib.Core.Bool.{Bool, true, false, not, _&&_, false≢true}
 use mathlib.Core.List.{List, [], _∷_, map}
-use lib.ListN.{length, getD, take, drop, length-drop}
+use lib.ListN.{length, take, drop, length-drop}
 use lib.Seq.{take-take, length-take-le}
-use lib.Dec.{eqb, leb, ltb, lit≤}
-use borrow.Author.Tests.{eqb-true, eqb-false, ltb-true, ltb-false}
+use lib.Dec.{eqb, leb, lit≤}
+use borrow.Author.Tests.{eqb-true, eqb-false, leb-true}
 use Rattle.text.specs.Bytes.{pick}
 use Rattle.text.specs.Runs.{span}
 use Rattle.text.specs.Order.{compared, isLess, less}
@@ -17,7 +17,8 @@ use Rattle.text.specs.declared.order.Order.{Order}
 use Rattle.text.specs.declared.order.Order.the-variants.{Less, Equal, Greater}
 use Rattle.text.proofs.Orders.{same-equal, less-first, less-later, less-either, less-less}
 use Rattle.settings.specs.Table.{recordsIn, records, nameField, unpadded, nameOf, zeros, isName, wellFormedName, orderedNames, ordered}
-use Rattle.halving.specs.Halving.{nameAt}
+use Rattle.halving.specs.Halving.{nameOfRecord}
+use Rattle.halving.proofs.RecordsAt.{records-length}
 
 and-both : (a b : Bool) → (a && b) ≡ true → (a ≡ true) × (b ≡ true)
 and-both true b e = (refl, e)
@@ -108,16 +109,16 @@ module _ (r q : List ℕ) (rs : List (List ℕ)) (w : Whole (r ∷ q ∷ rs)) (h
 
 -- the first name is less than every other
 first-least : (r : List ℕ) (rs : List (List ℕ)) → Whole (r ∷ rs) → orderedNames (map nameField (r ∷ rs)) ≡ true
-    → (j : ℕ) → j < length rs → compared (nameOf r) (nameAt rs j) ≡ Less
+    → (j : ℕ) → j < length rs → compared (nameOf r) (nameOfRecord rs j) ≡ Less
 first-least r [] w h j l = absurd (omega arith)
 first-least r (q ∷ rs) w h zero l = second-greater r q rs w h
 first-least r (q ∷ rs) w h (suc j) l =
-    less-less (nameOf r) (nameOf q) (nameAt rs j) (second-greater r q rs w h)
+    less-less (nameOf r) (nameOf q) (nameOfRecord rs j) (second-greater r q rs w h)
     (first-least q rs (w .1) (parts r q rs w h .2) j (omega arith))
 
 -- names that ascend
 abbrev pub Ascends : List (List ℕ) → Type 0
-Ascends rs = (i j : ℕ) → i < j → j < length rs → compared (nameAt rs i) (nameAt rs j) ≡ Less
+Ascends rs = (i j : ℕ) → i < j → j < length rs → compared (nameOfRecord rs i) (nameOfRecord rs j) ≡ Less
 
 ascends-in : (rs : List (List ℕ)) → Whole rs → orderedNames (map nameField rs) ≡ true → Ascends rs
 ascends-in [] w h i j l m = absurd (omega arith)
@@ -126,10 +127,17 @@ ascends-in (r ∷ rs) w h zero (suc j) l m = first-least r rs w h j (omega arith
 ascends-in (r ∷ []) w h (suc i) (suc j) l m = absurd (omega arith)
 ascends-in (r ∷ q ∷ rs) w h (suc i) (suc j) l m = ascends-in (q ∷ rs) (w .1) (parts r q rs w h .2) i j (omega arith) (omega arith)
 
--- THE THEOREM
-pub ascends : (t : List ℕ) → ordered t ≡ true → Ascends (records t)
+-- the limit of the length, and the order of the names
+both-parts : (t : List ℕ) → ordered t ≡ true → (length t ≤ 512 * 128) × (orderedNames (map nameField (records t)) ≡ true)
 unfolding ordered
-ascends t h =
+both-parts t h =
     let a = and-both (eqb (length t % 128) 0) _ h in
     let b = and-both (leb (length t) (512 * 128)) _ (a .1) in
-    ascends-in (records t) (whole (length t / 128) t (omega arith)) (b .1)
+    (leb-true (length t) (512 * 128) (b .0), b .1)
+
+pub few : (t : List ℕ) → ordered t ≡ true → length (records t) ≤ 512
+few t h = omega (arith, both-parts t h .0, records-length (length t / 128) t)
+
+-- THE THEOREM
+pub ascends : (t : List ℕ) → ordered t ≡ true → Ascends (records t)
+ascends t h = ascends-in (records t) (whole (length t / 128) t (omega arith)) (both-parts t h .1)

@@ -7,7 +7,7 @@ use lib.ListN.{length, getD, take, drop}
 use lib.Seq.{drop-drop}
 use Rattle.settings.specs.Table.{recordsIn, records, unpadded}
 use Rattle.settings.proofs.TableRecords.{field}
-use Rattle.halving.specs.Halving.{nameAt}
+use Rattle.halving.specs.Halving.{nameOfRecord}
 
 pub records-length : (m : ℕ) (t : List ℕ) → length (recordsIn m t) ≡ m
 unfolding recordsIn
@@ -24,5 +24,5 @@ record-at (suc m) (suc i) t h =
 
 -- the name of a record in the table
 pub name-at : (t : List ℕ) (i : ℕ) → i < length t / 128
-    → nameAt (records t) i ≡ unpadded (take (128 * i + 64 - 128 * i) (drop (128 * i) t))
+    → nameOfRecord (records t) i ≡ unpadded (take (128 * i + 64 - 128 * i) (drop (128 * i) t))
 name-at t i h = rw (record-at (length t / 128) i t h, field t (128 * i))

@@ -7,8 +7,7 @@ use mathlib.Core.List.{List}
 use borrow.Author.Tests.{lt-ltb, le-ltb}
 use Rattle.text.specs.Order.{compared}
 use Rattle.text.specs.declared.order.Order.{Order}
-use Rattle.text.specs.declared.order.Order.the-variants.{Less, Equal, Greater}
-use Rattle.halving.specs.Halving.{nameAt, nowhere, foundAt, roundMore, byOrder, middle, halve}
+use Rattle.halving.specs.Halving.{nameOfRecord, nowhere, foundAt, roundMore, byOrder, middle, halve}
 use Rattle.halving.specs.declared.Found.{Found}
 
 -- a result after r rounds that came before
@@ -43,13 +42,14 @@ module _ (rs : List (List ℕ)) (n : List ℕ) (total r low high : ℕ) (some : 
   abbrev pub rest : (low high : ℕ) → Found
   rest a b = halve (total - (r + 1)) a b rs n
 
-  pub one-round : after r (halve (total - r) low high rs n) ≡ after (r + 1) (byOrder (compared n (nameAt rs m)) (rest low m) (foundAt m) (rest (m + 1) high))
+  one-round : after r (halve (total - r) low high rs n)
+      ≡ after (r + 1) (byOrder (compared n (nameOfRecord rs m)) (rest low m) (foundAt m) (rest (m + 1) high))
   unfolding halve
   one-round =
       let e : total - r ≡ suc (total - (r + 1)) = omega arith in
       rw (e, lt-ltb low high some) (one-later r _)
 
   -- by the order of the name and that of the middle
-  module _ (o : Order) (e : compared n (nameAt rs m) ≡ o) where
+  module _ (o : Order) (e : compared n (nameOfRecord rs m) ≡ o) where
     pub turns : after r (halve (total - r) low high rs n) ≡ after (r + 1) (byOrder o (rest low m) (foundAt m) (rest (m + 1) high))
     turns = one-round ∙ rw e

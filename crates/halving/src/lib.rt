@@ -2,6 +2,7 @@
 use text::bytes;
 use text::eight;
 use text::order::Order;
+use text::parts;
 use text::runs;
 use text::runs::Set;
 use units::Offset;
@@ -21,8 +22,8 @@ pub struct Found {
     pub rounds: usize,
 }
 
-// How many of the first 64 bytes of a name come before its first zero. No more bytes are read.
-fn filled(name: &[u8]) -> usize
+// How many of the first 64 bytes of a name come before its first zero.
+fn filled_bytes(name: &[u8]) -> usize
     ensures { λ r. ⌜ (r ≤ 64) × (r ≤ span NonZero (now (name .entry))) ⌝ }
 {
     if name.len() <= 64 {
@@ -39,7 +40,7 @@ fn shared(a: &[u8], b: &[u8], most: usize) -> usize
     let mut i = 0;
     while 8 <= most - i {
         let next = i + 8;
-        if !eight::is_same(&a[i..next], &b[i..next]) {
+        if !eight::is_equal(&a[i..next], &b[i..next]) {
             return i;
         }
         i = next;
@@ -74,11 +75,11 @@ fn order_of(name: &[u8], filled: usize, field: &[u8]) -> Order
     }
 }
 
-// The record under a name. A round compares the name with one record's, that in the middle.
-pub fn find(table: &[u8], name: &[u8]) -> Found
+// A round compares the name with one record's, that in the middle.
+fn search(table: &[u8], name: &[u8]) -> Found
     ensures { λ r. ⌜ r ≡ halving (records (now (table .entry))) (now (name .entry)) ⌝ }
 {
-    let known = filled(name);
+    let filled = filled_bytes(name);
     let mut low = 0;
     let mut high = table.len() / 128;
     let mut rounds = 0;
@@ -87,7 +88,7 @@ pub fn find(table: &[u8], name: &[u8]) -> Found
         let at = 128 * middle;
         let end = at + 64;
         rounds += 1;
-        match order_of(name, known, &table[at..end]) {
+        match order_of(name, filled, &table[at..end]) {
             Order::Less => {
                 high = middle;
             }
@@ -108,4 +109,11 @@ pub fn find(table: &[u8], name: &[u8]) -> Found
         at: 0,
         rounds: rounds,
     }
+}
+
+// The record under a name. No record's name is longer than 64 bytes, so the rest of a longer name is not even handed on.
+pub fn find(table: &[u8], name: &[u8]) -> Found
+    ensures { λ r. ⌜ r ≡ halving (records (now (table .entry))) (now (name .entry)) ⌝ }
+{
+    search(table, parts::part(name, Offset(0), 65))
 }

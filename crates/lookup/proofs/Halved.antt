@@ -9,7 +9,7 @@ use lib.ListN.{length, getD, take, drop}
 use Rattle.text.specs.Bytes.{pick}
 use Rattle.text.proofs.Laws.{part-from}
 use Rattle.settings.specs.Table.{records, ordered}
-use Rattle.halving.specs.Halving.{nameAt, halving, Finds}
+use Rattle.halving.specs.Halving.{nameOfRecord, halving, Finds}
 use Rattle.halving.specs.declared.Found.{Found}
 use Rattle.halving.proofs.RecordsAt.{records-length, record-at}
 use Rattle.halving.proofs.Ascending.{ascends}
@@ -26,6 +26,7 @@ module _ (t n : List ℕ) (f : Found) (e : f ≡ halving (records t) n) where
   nothing g = record {
     right = λ h. sym (under-none (records t) n 0 (found h .miss g));
     within = tt;
+    halved = rw (← e, g);
   }
 
   module _ (g : f .there ≡ true) where
@@ -41,7 +42,7 @@ module _ (t n : List ℕ) (f : Found) (e : f ≡ halving (records t) n) where
     inside = omega (arith, place)
 
     -- no record before it has the name
-    only : ordered t ≡ true → (j : ℕ) → j < f .at → nameAt (records t) j ≡ n → ⊥
+    only : ordered t ≡ true → (j : ℕ) → j < f .at → nameOfRecord (records t) j ≡ n → ⊥
     only h j l k =
         let p = found h .hit g in
         let same = one-record (records t) (ascends t h) j (f .at) (omega (arith, l, p .0)) (p .0) (k ∙ sym (p .1)) in
@@ -55,6 +56,7 @@ module _ (t n : List ℕ) (f : Found) (e : f ≡ halving (records t) n) where
           let under = under-found (records t) n 0 (f .at) (p .0) (p .1) (only h) in
           rw (part-from t at 128, ← record-at (length t / 128) (f .at) t place) (sym (rw (← zero-add (128 * f .at)) under));
       within = value-within t at _ inside;
+      halved = rw (← e, g, part-from t at 128, record-at (length t / 128) (f .at) t place);
     }
 
 -- THE THEOREM: the record under a name is the one that the search finds

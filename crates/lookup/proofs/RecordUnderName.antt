@@ -8,15 +8,14 @@ use lib.ListN.{length, getD}
 use lib.Dec.{eqb, leb}
 use borrow.Author.Tests.{leb-true}
 use Rattle.text.specs.Bytes.{pick}
-use Rattle.text.specs.Order.{equal}
 use Rattle.text.proofs.Laws.{pick-case}
 use Rattle.text.proofs.Orders.{same-equal, differs}
 use Rattle.settings.specs.Table.{nameOf, kindByte, lengthByte}
-use Rattle.halving.specs.Halving.{nameAt}
+use Rattle.halving.specs.Halving.{nameOfRecord}
 use Rattle.lookup.specs.Setting.{setTo, notSet, clipped, valueAt, settingUnderAt, recordAmong, Within}
 
 -- the first record with the name has the setting
-pub under-found : (rs : List (List ℕ)) (n : List ℕ) (at i : ℕ) → i < length rs → nameAt rs i ≡ n → ((j : ℕ) → j < i → nameAt rs j ≡ n → ⊥)
+pub under-found : (rs : List (List ℕ)) (n : List ℕ) (at i : ℕ) → i < length rs → nameOfRecord rs i ≡ n → ((j : ℕ) → j < i → nameOfRecord rs j ≡ n → ⊥)
     → settingUnderAt at rs n ≡ setTo (valueAt (at + 128 * i) (getD rs i []))
 unfolding settingUnderAt
 under-found [] n at i h e d = absurd (omega arith)
@@ -28,7 +27,7 @@ under-found (r ∷ rs) n at (suc i) h e d =
     rw (differs (nameOf r) n (d 0 (omega arith)), z)
     (under-found rs n (at + 128) i (omega arith) e (λ j l. d (suc j) (omega arith)))
 
-pub among-found : (rs : List (List ℕ)) (n : List ℕ) (i : ℕ) → i < length rs → nameAt rs i ≡ n → ((j : ℕ) → j < i → nameAt rs j ≡ n → ⊥)
+pub among-found : (rs : List (List ℕ)) (n : List ℕ) (i : ℕ) → i < length rs → nameOfRecord rs i ≡ n → ((j : ℕ) → j < i → nameOfRecord rs j ≡ n → ⊥)
     → recordAmong rs n ≡ getD rs i []
 unfolding recordAmong
 among-found [] n i h e d = absurd (omega arith)
@@ -37,13 +36,13 @@ among-found (r ∷ rs) n (suc i) h e d =
     rw (differs (nameOf r) n (d 0 (omega arith))) (among-found rs n i (omega arith) e (λ j l. d (suc j) (omega arith)))
 
 -- no record has the name
-pub under-none : (rs : List (List ℕ)) (n : List ℕ) (at : ℕ) → ((j : ℕ) → j < length rs → nameAt rs j ≡ n → ⊥) → settingUnderAt at rs n ≡ notSet
+pub under-none : (rs : List (List ℕ)) (n : List ℕ) (at : ℕ) → ((j : ℕ) → j < length rs → nameOfRecord rs j ≡ n → ⊥) → settingUnderAt at rs n ≡ notSet
 unfolding settingUnderAt
 under-none [] n at d = refl
 under-none (r ∷ rs) n at d =
     rw (differs (nameOf r) n (d 0 (omega arith))) (under-none rs n (at + 128) (λ j l. d (suc j) (omega arith)))
 
-pub among-none : (rs : List (List ℕ)) (n : List ℕ) → ((j : ℕ) → j < length rs → nameAt rs j ≡ n → ⊥) → recordAmong rs n ≡ []
+pub among-none : (rs : List (List ℕ)) (n : List ℕ) → ((j : ℕ) → j < length rs → nameOfRecord rs j ≡ n → ⊥) → recordAmong rs n ≡ []
 unfolding recordAmong
 among-none [] n d = refl
 among-none (r ∷ rs) n d = rw (differs (nameOf r) n (d 0 (omega arith))) (among-none rs n (λ j l. d (suc j) (omega arith)))

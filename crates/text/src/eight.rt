@@ -12,7 +12,7 @@ fn as_u64(b: u8) -> u64
     b as u64
 }
 
-// The number in eight bytes, the lowest first.
+// The number in eight bytes, the lowest first. That all of them are bytes is handed on, for proofs.
 pub fn number(s: &[u8]) -> u64
     requires { ⌜ length (now s) ≡ 8 ⌝ }
     ensures { λ v. ⌜ (v ≡ littleEndian 8 0 (now (s .entry))) × AreBytes 8 0 (now (s .entry)) ⌝ }
@@ -21,8 +21,8 @@ pub fn number(s: &[u8]) -> u64
     as_u64(s[0]) + 256 * (as_u64(s[1]) + 256 * (as_u64(s[2]) + 256 * (as_u64(s[3]) + 256 * high)))
 }
 
-// Whether two times eight bytes are equal.
-pub fn is_same(a: &[u8], b: &[u8]) -> bool
+// Whether eight bytes equal eight others.
+pub fn is_equal(a: &[u8], b: &[u8]) -> bool
     requires { ⌜ (length (now a) ≡ 8) × (length (now b) ≡ 8) ⌝ }
     ensures { λ r. ⌜ r ≡ equal (now (a .entry)) (now (b .entry)) ⌝ }
 {

@@ -13,12 +13,13 @@ use Rattle.units.specs.Dialects.{STRICT, inDirectives}
 use Rattle.units.specs.declared.Refusal.{Refusal}
 use Rattle.units.specs.declared.Dialect.{Dialect}
 use Rattle.text.specs.Bytes.{pick}
-use Rattle.settings.specs.Table.{records, wellFormed}
+use Rattle.settings.specs.Table.{records, ordered, wellFormed}
 use Rattle.settings.proofs.Ordered.{in-order}
-use Rattle.halving.specs.Halving.{nameAt, halving, Finds}
+use Rattle.halving.specs.Halving.{nameOfRecord, halving, Finds}
 use Rattle.halving.proofs.Ascending.{ascends}
 use Rattle.halving.proofs.Finds.{finds, one-record}
-use Rattle.halving.proofs.RoundsBounded.{at-most-ten, first-takes-ten}
+use Rattle.halving.proofs.RoundsBounded.{at-most-ten, ten-in-a-table, first-takes-ten}
+use Rattle.halving.proofs.Beginning.{first-bytes-decide}
 use Rattle.halving.proofs.FullTable.{full-table}
 use Rattle.lookup.specs.Setting.{recordUnder}
 use Rattle.lookup.proofs.Halved.{halved-record}
@@ -126,28 +127,37 @@ expression-has-no-line = without-line
 pub field-has-no-line : (m : Memory) (datum : ℕ) (buffer : List ℕ) (δ : Dialect) → lineOfField (fieldOf m datum buffer δ .answer) ≡ 0
 field-has-no-line = field-without-line
 
--- LOOKUP BY HALVING (document 02, order 4): `lookup` takes the record that `halving` finds, after as many rounds, each with one name
+-- LOOKUP BY HALVING (document 02, order 4). By its contract, `halving::find` gives what `halving` is, the count of its rounds included; a round
+-- compares one name. By its contract `lookup` gives the setting of the record that `halving` finds.
 
--- At most one record of a well-formed table has a name.
+-- No two records of a well-formed table have the same name.
 pub one-record-under-a-name : (t : List ℕ) → wellFormed t ≡ true
-    → (i j : ℕ) → i < length (records t) → j < length (records t) → nameAt (records t) i ≡ nameAt (records t) j → i ≡ j
+    → (i j : ℕ) → i < length (records t) → j < length (records t) → nameOfRecord (records t) i ≡ nameOfRecord (records t) j → i ≡ j
 one-record-under-a-name t h = one-record (records t) (ascends t (in-order t h))
 
--- Halving finds it, for any bytes as the name, or tells that no record has the name; so it finds the record under the name.
-pub halving-finds : (t n : List ℕ) → wellFormed t ≡ true → Finds (records t) n (halving (records t) n)
-halving-finds t n h = finds (records t) n (ascends t (in-order t h))
+-- For any bytes as the name, halving gives the place of the record with that name, or tells that there is none. So it finds the record under
+-- the name. The first 65 bytes of a name decide, and no more are read.
+pub halving-finds : (t n : List ℕ) → ordered t ≡ true → Finds (records t) n (halving (records t) n)
+halving-finds t n h = finds (records t) n (ascends t h)
 
-pub halving-finds-the-record : (t n : List ℕ) → wellFormed t ≡ true
+pub halving-finds-the-record : (t n : List ℕ) → ordered t ≡ true
     → recordUnder t n ≡ pick (halving (records t) n .there) (getD (records t) (halving (records t) n .at) []) []
-halving-finds-the-record t n h = halved-record t n (in-order t h)
+halving-finds-the-record = halved-record
 
--- It takes at most 10 rounds among at most 512 records, in any order. The first record of a full table takes 10, and there is a full table.
-pub ten-rounds-at-most : (rs : List (List ℕ)) (n : List ℕ) → length rs ≤ 512 → halving rs n .rounds ≤ 10
-ten-rounds-at-most = at-most-ten
+pub first-65-bytes-decide : (rs : List (List ℕ)) (n : List ℕ) → halving rs (take 65 n) ≡ halving rs n
+first-65-bytes-decide = first-bytes-decide
 
-pub ten-rounds-reached : (t : List ℕ) → wellFormed t ≡ true → length (records t) ≡ 512
-    → halving (records t) (nameAt (records t) 0) ≡ record { there = true; at = 0; rounds = 10 }
-ten-rounds-reached t h = first-takes-ten (records t) (ascends t (in-order t h))
+-- A search in a table takes at most 10 rounds; among 512 records that are in no order, too. In a table of 512 records the first one's name takes
+-- 10, and there is such a table.
+pub ten-rounds-at-most : (t n : List ℕ) → ordered t ≡ true → halving (records t) n .rounds ≤ 10
+ten-rounds-at-most = ten-in-a-table
+
+pub ten-rounds-at-most-in-any-order : (rs : List (List ℕ)) (n : List ℕ) → length rs ≤ 512 → halving rs n .rounds ≤ 10
+ten-rounds-at-most-in-any-order = at-most-ten
+
+pub ten-rounds-reached : (t : List ℕ) → ordered t ≡ true → length (records t) ≡ 512
+    → halving (records t) (nameOfRecord (records t) 0) ≡ record { there = true; at = 0; rounds = 10 }
+ten-rounds-reached t h = first-takes-ten (records t) (ascends t h)
 
 pub full-table-exists : (t : List ℕ) × (wellFormed t ≡ true) × (length (records t) ≡ 512)
 full-table-exists = full-table

@@ -1,7 +1,7 @@
 -- Invariant: the bytes before the index are equal and not zero, so the rest decides. Each exit is a case of the definition.
 use Prim.Native.Nat.{_≤_, _-_}
 use native.Mathlib.Omega.{arith}
-use mathlib.Core.Path.{_≡_, refl, sym, _∙_}
+use mathlib.Core.Path.{_≡_, sym, _∙_}
 use lib.ListN.{length, getD, drop}
 use borrow.Author.Needs.{needs}
 use Rattle.text.specs.Order.{compared}

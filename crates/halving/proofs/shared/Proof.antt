@@ -1,8 +1,8 @@
 -- Invariant: both begin with the same bytes up to the index. Eight equal bytes lead further.
-use Prim.Native.Nat.{_≤_, _-_, _+_}
+use Prim.Native.Nat.{_≤_, _-_}
 use native.Mathlib.Omega.{arith}
 use mathlib.Core.Path.{_≡_, refl, sym, _∙_}
-use lib.ListN.{length, take, drop}
+use lib.ListN.{take, drop}
 use lib.Seq.{take-add}
 use borrow.Author.Tests.{not-false}
 use Rattle.text.proofs.Laws.{part-from, part-length}
@@ -25,26 +25,26 @@ sub-loop c = omega arith
 add-next : tie.Need-add-next Inv-loop μ-loop
 add-next c = omega arith
 
-sub-is-same : tie.Need-sub-is-same Inv-loop μ-loop
-sub-is-same c = omega arith
+sub-is-equal : tie.Need-sub-is-equal Inv-loop μ-loop
+sub-is-equal c = omega arith
 
-part-is-same-start : tie.Need-part-is-same-start Inv-loop μ-loop
-part-is-same-start c = omega arith
+part-is-equal-start : tie.Need-part-is-equal-start Inv-loop μ-loop
+part-is-equal-start c = omega arith
 
-part-is-same-end : tie.Need-part-is-same-end Inv-loop μ-loop
-part-is-same-end c = omega arith
+part-is-equal-end : tie.Need-part-is-equal-end Inv-loop μ-loop
+part-is-equal-end c = omega arith
 
-sub-is-same-2 : tie.Need-sub-is-same-2 Inv-loop μ-loop
-sub-is-same-2 c = omega arith
+sub-is-equal-2 : tie.Need-sub-is-equal-2 Inv-loop μ-loop
+sub-is-equal-2 c = omega arith
 
-part-is-same-start-2 : tie.Need-part-is-same-start-2 Inv-loop μ-loop
-part-is-same-start-2 c = omega arith
+part-is-equal-start-2 : tie.Need-part-is-equal-start-2 Inv-loop μ-loop
+part-is-equal-start-2 c = omega arith
 
-part-is-same-end-2 : tie.Need-part-is-same-end-2 Inv-loop μ-loop
-part-is-same-end-2 c = omega arith
+part-is-equal-end-2 : tie.Need-part-is-equal-end-2 Inv-loop μ-loop
+part-is-equal-end-2 c = omega arith
 
-is-same-requires : tie.Need-is-same-requires Inv-loop μ-loop
-is-same-requires c κs =
+is-equal-requires : tie.Need-is-equal-requires Inv-loop μ-loop
+is-equal-requires c κs =
     let at-loop = c .before .before .before in
     let args = at-loop .before .before .before .args in
     let i = at-loop .loop .i in
@@ -64,7 +64,7 @@ loop-again c =
     let b = args .b .now in
     let i = at-loop .loop .i in
     let same : take 8 (drop i a) ≡ take 8 (drop i b) =
-    rw (← part-from a i 8, ← part-from b i 8) (equals _ _ (sym (c .before .is-same .ensures) ∙ not-false _ (c .if1 .left))) in
+    rw (← part-from a i 8, ← part-from b i 8) (equals _ _ (sym (c .before .is-equal .ensures) ∙ not-false _ (c .if1 .left))) in
     (omega arith, rw (take-add i 8 a, take-add i 8 b, at-loop .loop .inv .1, same))
 
 returns-2 : tie.Need-returns-2 Inv-loop μ-loop
@@ -79,13 +79,13 @@ shared-spec =
     loop-holds
     sub-loop
     add-next
-    sub-is-same
-    part-is-same-start
-    part-is-same-end
-    sub-is-same-2
-    part-is-same-start-2
-    part-is-same-end-2
-    is-same-requires
+    sub-is-equal
+    part-is-equal-start
+    part-is-equal-end
+    sub-is-equal-2
+    part-is-equal-start-2
+    part-is-equal-end-2
+    is-equal-requires
     returns
     loop-less
     loop-again

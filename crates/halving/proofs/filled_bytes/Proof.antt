@@ -5,8 +5,8 @@ use borrow.Author.Needs.{needs}
 use Rattle.text.specs.declared.runs.Set.the-variants.{NonZero}
 use Rattle.text.proofs.Laws.{span-fits}
 use Rattle.halving.proofs.Beside.{span-take}
-use Rattle.halving.proofs.filled.Statement.{statement}
-use Rattle.halving.proofs.filled.Tie as tie
+use Rattle.halving.proofs.filled_bytes.Statement.{statement}
+use Rattle.halving.proofs.filled_bytes.Tie as tie
 
 run-end-requires : tie.Need-run-end-requires
 run-end-requires c κs = search needs
@@ -33,8 +33,8 @@ returns-2 c =
     let n = c .before .before .before .before .args .name .now in
     (omega (arith, c .run-end2 .ensures, span-fits NonZero (take 64 n), length-take 64 n), omega (arith, c .run-end2 .ensures, span-take NonZero 64 n))
 
-pub filled-spec : {M : Type 1} → statement M
-filled-spec =
+pub filled-bytes-spec : {M : Type 1} → statement M
+filled-bytes-spec =
     tie.close
     (tie.spec
     run-end-requires
