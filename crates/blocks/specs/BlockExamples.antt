@@ -12,7 +12,7 @@ use Rattle.text.specs.Runs.{span}
 use Rattle.text.specs.Order.{compared}
 use Rattle.text.specs.Numbers.{littleEndian}
 use Rattle.text.specs.Names.{macroName, pcdName}
-use Rattle.settings.specs.Table.{recordsIn, zeros, isName, wellFormedName, orderedNames, ordered, plainKind, plainRecord, plainRecords, wellFormed}
+use Rattle.settings.specs.Table.{recordsIn, orderedNames, ordered, plainRecords, wellFormed}
 use Rattle.lookup.specs.Setting.{valueAt, settingUnderAt, settingUnder}
 use Rattle.literal.specs.Literal.{digitOf, valueIn, literal, isDecimal, isHexadecimal, hexadecimalOf, numberOf}
 use Rattle.lexeme.specs.Lexeme.{stringOf, stringAt, spelled, isWide, wordOf, macroOf, begins, leading, lexemeBy, lexeme}

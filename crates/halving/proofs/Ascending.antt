@@ -3,7 +3,7 @@ use Prim.Native.Nat.{ℕ, zero, suc, _*_, _/_, _%_, _≤_, _<_}
 use native.Mathlib.Omega.{arith}
 use mathlib.Core.Path.{_≡_, refl, sym, ap, _∙_}
 use mathlib.Core.Logic.{_⊎_, inl, inr}
-use mathlib.Core.Bool.{Bool, true, false, not, _&&_, false≢true}
+use mathlib.Core.Bool.{Bool, true, false, not, false≢true}
 use mathlib.Core.List.{List, [], _∷_, map}
 use lib.ListN.{length, take, drop, length-drop}
 use lib.Seq.{take-take, length-take-le}
@@ -15,14 +15,11 @@ use Rattle.text.specs.Order.{compared, isLess, less}
 use Rattle.text.specs.declared.runs.Set.the-variants.{NonZero}
 use Rattle.text.specs.declared.order.Order.{Order}
 use Rattle.text.specs.declared.order.Order.the-variants.{Less, Equal, Greater}
-use Rattle.text.proofs.Orders.{same-equal, less-first, less-later, less-either, less-less}
+use Rattle.text.proofs.Laws.{and-left, and-right}
+use Rattle.text.proofs.Orders.{not-less, less-first, less-later, less-either, less-less}
 use Rattle.settings.specs.Table.{recordsIn, records, nameField, unpadded, nameOf, zeros, isName, wellFormedName, orderedNames, ordered}
 use Rattle.halving.specs.Halving.{nameOfRecord}
 use Rattle.halving.proofs.RecordsAt.{records-length}
-
-and-both : (a b : Bool) → (a && b) ≡ true → (a ≡ true) × (b ≡ true)
-and-both true b e = (refl, e)
-and-both false b e = absurd (false≢true e)
 
 -- zeros of one length are the same
 zeros-same : (f g : List ℕ) → length f ≡ length g → zeros f ≡ true → zeros g ≡ true → f ≡ g
@@ -31,10 +28,8 @@ zeros-same [] [] l e h = refl
 zeros-same [] (y ∷ g) l e h = absurd (omega arith)
 zeros-same (x ∷ f) [] l e h = absurd (omega arith)
 zeros-same (x ∷ f) (y ∷ g) l e h =
-    let p = and-both (eqb x 0) (zeros f) e in
-    let q = and-both (eqb y 0) (zeros g) h in
-    let first : x ≡ y = eqb-true x 0 (p .0) ∙ sym (eqb-true y 0 (q .0)) in
-    rw (first, zeros-same f g (omega arith) (p .1) (q .1))
+    let first : x ≡ y = eqb-true x 0 (and-left _ (zeros f) e) ∙ sym (eqb-true y 0 (and-left _ (zeros g) h)) in
+    rw (first, zeros-same f g (omega arith) (and-right (eqb x 0) _ e) (and-right (eqb y 0) _ h))
 
 -- of two fields of one length, each a name and then zeros, the lesser has the lesser name
 abbrev Padded : List ℕ → Type 0
@@ -57,9 +52,7 @@ lesser-name (x ∷ f) (y ∷ g) l p q h =
         → (x < y) ⊎ ((x ≡ y) × (compared f g ≡ Less))
         → (Padded f → Padded g → compared f g ≡ Less → compared (unpadded f) (unpadded g) ≡ Less)
         → compared (take (cut t f) (x ∷ f)) (take (cut u g) (y ∷ g)) ≡ Less
-    by true a true b p q d r =
-        let same = zeros-same (x ∷ f) (y ∷ g) l p q in
-        absurd (false≢true (ap isLess (sym (same-equal (x ∷ f)) ∙ ap (compared (x ∷ f)) same ∙ h)))
+    by true a true b p q d r = absurd (not-less (x ∷ f) (y ∷ g) (zeros-same (x ∷ f) (y ∷ g) l p q) h)
     by true a false b p q d r = refl
     by false a true b p q (inl m) r = absurd (omega (arith, eqb-true y 0 b, m))
     by false a true b p q (inr m) r = absurd (eqb-false x 0 a (m .0 ∙ eqb-true y 0 b))
@@ -67,11 +60,11 @@ lesser-name (x ∷ f) (y ∷ g) l p q h =
     by false a false b p q (inr m) r = less-later x y (unpadded f) (unpadded g) (m .0) (r p q (m .1))
 
 -- every record has a whole name field
-abbrev pub Whole : List (List ℕ) → Type 0
+abbrev Whole : List (List ℕ) → Type 0
 Whole [] = Unit
 Whole (r ∷ rs) = (length (nameField r) ≡ 64) × Whole rs
 
-pub whole : (m : ℕ) (t : List ℕ) → 128 * m ≤ length t → Whole (recordsIn m t)
+whole : (m : ℕ) (t : List ℕ) → 128 * m ≤ length t → Whole (recordsIn m t)
 unfolding recordsIn
 whole zero t h = tt
 whole (suc m) t h =
@@ -80,12 +73,12 @@ whole (suc m) t h =
 
 padded : (f : List ℕ) → wellFormedName f ≡ true → Padded f
 unfolding wellFormedName
-padded f h = and-both (isName (unpadded f)) _ h .1
+padded f h = and-right (isName (unpadded f)) _ h
 
 first-well : (q : List ℕ) (rs : List (List ℕ)) → orderedNames (map nameField (q ∷ rs)) ≡ true → wellFormedName (nameField q) ≡ true
 unfolding orderedNames
 first-well q [] h = h
-first-well q (r ∷ rs) h = and-both (wellFormedName (nameField q)) _ h .0
+first-well q (r ∷ rs) h = and-left (wellFormedName (nameField q)) _ h
 
 is-less : (o : Order) → isLess o ≡ true → o ≡ Less
 is-less Less e = refl
@@ -97,9 +90,8 @@ module _ (r q : List ℕ) (rs : List (List ℕ)) (w : Whole (r ∷ q ∷ rs)) (h
   parts : (wellFormedName (nameField r) ≡ true) × (less (nameField r) (nameField q) ≡ true) × (orderedNames (map nameField (q ∷ rs)) ≡ true)
   unfolding orderedNames
   parts =
-      let a = and-both (wellFormedName (nameField r)) _ h in
-      let b = and-both (less (nameField r) (nameField q)) _ (a .1) in
-      (a .0, b .0, b .1)
+      let rest = and-right (wellFormedName (nameField r)) _ h in
+      (and-left (wellFormedName (nameField r)) _ h, and-left (less (nameField r) (nameField q)) _ rest, and-right (less (nameField r) (nameField q)) _ rest)
 
   second-greater : compared (nameOf r) (nameOf q) ≡ Less
   second-greater =
@@ -131,9 +123,8 @@ ascends-in (r ∷ q ∷ rs) w h (suc i) (suc j) l m = ascends-in (q ∷ rs) (w .
 both-parts : (t : List ℕ) → ordered t ≡ true → (length t ≤ 512 * 128) × (orderedNames (map nameField (records t)) ≡ true)
 unfolding ordered
 both-parts t h =
-    let a = and-both (eqb (length t % 128) 0) _ h in
-    let b = and-both (leb (length t) (512 * 128)) _ (a .1) in
-    (leb-true (length t) (512 * 128) (b .0), b .1)
+    let rest = and-right (eqb (length t % 128) 0) _ h in
+    (leb-true (length t) (512 * 128) (and-left (leb (length t) (512 * 128)) _ rest), and-right (leb (length t) (512 * 128)) _ rest)
 
 pub few : (t : List ℕ) → ordered t ≡ true → length (records t) ≤ 512
 few t h = omega (arith, both-parts t h .0, records-length (length t / 128) t)

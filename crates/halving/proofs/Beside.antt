@@ -31,7 +31,7 @@ span-take k (suc m) (b ∷ s) = by (holds k b) (span-take k m s)
 
 module _ (f : List ℕ) (i : ℕ) where
   -- a zero, or no byte: there the name in the field ends
-  pub field-ends : getD f i 0 ≡ 0 → unpadded (drop i f) ≡ []
+  field-ends : getD f i 0 ≡ 0 → unpadded (drop i f) ≡ []
   unfolding span
   field-ends e = by (ltb i (length f)) refl
     where
@@ -39,7 +39,7 @@ module _ (f : List ℕ) (i : ℕ) where
       by true h = rw (drop-cons f i 0 (ltb-true i (length f) h), eq-eqb (getD f i 0) 0 e)
       by false h = rw (drop-of-length-le f (ltb-false i (length f) h))
 
-  pub field-goes : (getD f i 0 ≡ 0 → ⊥) → unpadded (drop i f) ≡ getD f i 0 ∷ unpadded (drop (i + 1) f)
+  field-goes : (getD f i 0 ≡ 0 → ⊥) → unpadded (drop i f) ≡ getD f i 0 ∷ unpadded (drop (i + 1) f)
   unfolding span
   field-goes z = rw (drop-cons f i 0 (inside f i z), ne-eqb (getD f i 0) 0 z, add-one i)
 

@@ -8,10 +8,10 @@ use lib.ListN.{length}
 use lib.Dec.{eqb, ltb}
 use borrow.Author.Tests.{eqb-true, eqb-false, ltb-true, ltb-false}
 use Rattle.text.specs.Bytes.{pick}
-use Rattle.text.specs.Order.{compared, isLess}
+use Rattle.text.specs.Order.{compared}
 use Rattle.text.specs.declared.order.Order.{Order}
 use Rattle.text.specs.declared.order.Order.the-variants.{Less, Equal, Greater}
-use Rattle.text.proofs.Orders.{turned, same-equal, equal-same, turned-compared, less-less}
+use Rattle.text.proofs.Orders.{turned, not-less, equal-same, turned-compared, less-less}
 use Rattle.halving.specs.Halving.{nameOfRecord, nowhere, foundAt, roundMore, byOrder, middle, halve, halving, Finds}
 use Rattle.halving.specs.declared.Found.{Found}
 use Rattle.halving.proofs.Ascending.{Ascends}
@@ -23,9 +23,6 @@ module _ (rs : List (List ℕ)) (n : List ℕ) (up : Ascends rs) where
 
   abbrev Ahead : ℕ → Type 0
   Ahead high = (i : ℕ) → high ≤ i → i < length rs → compared n (nameOfRecord rs i) ≡ Less
-
-  not-less : (a b : List ℕ) → a ≡ b → compared a b ≡ Less → ⊥
-  not-less a b e h = false≢true (ap isLess (sym (same-equal a) ∙ ap (compared a) e ∙ h))
 
   -- no record is left
   none : (low high : ℕ) → high ≤ low → Passed low → Ahead high → Finds rs n nowhere
@@ -122,6 +119,6 @@ pub one-record : (rs : List (List ℕ)) → Ascends rs → (i j : ℕ) → i < l
 one-record rs up i j h k e = by (ltb i j) refl (ltb j i) refl
   where
     by : (t : Bool) → ltb i j ≡ t → (u : Bool) → ltb j i ≡ u → i ≡ j
-    by true g u q = absurd (not-less rs (nameOfRecord rs i) up (nameOfRecord rs i) (nameOfRecord rs j) e (up i j (ltb-true i j g) k))
-    by false g true q = absurd (not-less rs (nameOfRecord rs i) up (nameOfRecord rs j) (nameOfRecord rs i) (sym e) (up j i (ltb-true j i q) h))
+    by true g u q = absurd (not-less (nameOfRecord rs i) (nameOfRecord rs j) e (up i j (ltb-true i j g) k))
+    by false g true q = absurd (not-less (nameOfRecord rs j) (nameOfRecord rs i) (sym e) (up j i (ltb-true j i q) h))
     by false g false q = omega (arith, ltb-false i j g, ltb-false j i q)

@@ -1,14 +1,17 @@
 -- A search, one round at a time. Assumes nothing.
-use Prim.Native.Nat.{ℕ, zero, suc, _+_, _-_, _≤_, _<_}
+use Prim.Native.Nat.{ℕ, zero, suc, _+_, _-_, _*_, _/_, _≤_, _<_}
 use native.Mathlib.Omega.{arith}
 use mathlib.Core.Path.{_≡_, refl, ap, _∙_}
 use mathlib.Core.Bool.{true, false}
 use mathlib.Core.List.{List}
+use lib.ListN.{length, take, drop}
 use borrow.Author.Tests.{lt-ltb, le-ltb}
 use Rattle.text.specs.Order.{compared}
 use Rattle.text.specs.declared.order.Order.{Order}
+use Rattle.settings.specs.Table.{records, unpadded}
 use Rattle.halving.specs.Halving.{nameOfRecord, nowhere, foundAt, roundMore, byOrder, middle, halve}
 use Rattle.halving.specs.declared.Found.{Found}
+use Rattle.halving.proofs.RecordsAt.{name-at}
 
 -- a result after r rounds that came before
 abbrev pub after : ℕ → Found → Found
@@ -39,7 +42,7 @@ module _ (rs : List (List ℕ)) (n : List ℕ) (total r low high : ℕ) (some : 
   abbrev m : ℕ
   m = middle low high
 
-  abbrev pub rest : (low high : ℕ) → Found
+  abbrev rest : (low high : ℕ) → Found
   rest a b = halve (total - (r + 1)) a b rs n
 
   one-round : after r (halve (total - r) low high rs n)
@@ -49,7 +52,17 @@ module _ (rs : List (List ℕ)) (n : List ℕ) (total r low high : ℕ) (some : 
       let e : total - r ≡ suc (total - (r + 1)) = omega arith in
       rw (e, lt-ltb low high some) (one-later r _)
 
-  -- by the order of the name and that of the middle
-  module _ (o : Order) (e : compared n (nameOfRecord rs m) ≡ o) where
-    pub turns : after r (halve (total - r) low high rs n) ≡ after (r + 1) (byOrder o (rest low m) (foundAt m) (rest (m + 1) high))
-    turns = one-round ∙ rw e
+-- the same in a table, by the order p of the name and the one in the middle's name field
+module _ (t n : List ℕ) (r low high : ℕ) (some : low < high) (room : r + (high - low) ≤ length t / 128) (most : high ≤ length t / 128) where
+  abbrev total : ℕ
+  total = length t / 128
+
+  abbrev mid : ℕ
+  mid = middle low high
+
+  abbrev onward : (low high : ℕ) → Found
+  onward a b = halve (total - (r + 1)) a b (records t) n
+
+  pub turns : (p o : Order) → p ≡ compared n (unpadded (take (128 * mid + 64 - 128 * mid) (drop (128 * mid) t))) → p ≡ o
+      → after r (halve (total - r) low high (records t) n) ≡ after (r + 1) (byOrder o (onward low mid) (foundAt mid) (onward (mid + 1) high))
+  turns p o e g = one-round (records t) n total r low high some room ∙ rw (name-at t mid (omega arith), ← e, g)

@@ -10,19 +10,11 @@ use borrow.Author.Tests.{ltb-true, ne-eqb, eqb-false}
 use Rattle.units.specs.Refusals.{TOKEN-BAD}
 use Rattle.text.specs.Bytes.{pick, among, quote}
 use Rattle.text.specs.Order.{equal}
-use Rattle.text.proofs.Laws.{unlike-lengths, inside}
+use Rattle.text.proofs.Laws.{unlike-lengths, inside, and-left, and-right}
 use Rattle.codes.specs.Spellings.{Spelling, ofLength, symbols, found}
 use Rattle.lexeme.specs.Lexeme.{spelled, isWide, begins, leading}
 use Rattle.codes.specs.declared.Scanned.{Scanned}
 use Rattle.codes.specs.declared.Scanned.the-variants.{Refused}
-
-pub and-left : (a b : Bool) → (a && b) ≡ true → a ≡ true
-and-left true b e = refl
-and-left false b e = absurd (false≢true e)
-
-pub and-right : (a b : Bool) → (a && b) ≡ true → b ≡ true
-and-right true b e = e
-and-right false b e = absurd (false≢true e)
 
 -- every spelling has one of some lengths
 abbrev allOf : List ℕ → List Spelling → Bool

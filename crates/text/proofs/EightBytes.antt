@@ -1,19 +1,16 @@
 -- Bytes are equal exactly if the numbers in them are. Assumes nothing.
-use Prim.Native.Nat.{ℕ, zero, suc, _+_, _*_, _≤_, _<_}
+use Prim.Native.Nat.{ℕ, zero, suc, _+_, _≤_, _<_}
 use native.Mathlib.Omega.{arith}
-use native.Mathlib.Nat.{zero-add}
 use mathlib.Core.Path.{_≡_, refl, sym, ap, _∙_}
 use mathlib.Core.List.{List}
-use mathlib.Core.Bool.{Bool, true, false, false≢true}
+use mathlib.Core.Bool.{Bool, true, false}
 use lib.ListN.{length, getD, take, drop}
 use lib.Seq.{ext-getD, getD-take, getD-drop}
 use lib.Dec.{eqb}
-use borrow.Author.Tests.{eq-eqb, ne-eqb}
-use Rattle.text.specs.Order.{compared, isEqual, equal}
+use borrow.Author.Tests.{eqb-true, eqb-false}
+use Rattle.text.specs.Order.{isEqual, equal}
 use Rattle.text.specs.Numbers.{littleEndian, AreBytes}
-use Rattle.text.proofs.Orders.{same-equal, equal-same}
-use Rattle.text.specs.declared.order.Order.{Order}
-use Rattle.text.specs.declared.order.Order.the-variants.{Less, Equal, Greater}
+use Rattle.text.proofs.Orders.{same-equal, differs}
 
 -- the bytes of a number, one by one
 same-bytes : (n i : ℕ) (a b : List ℕ) → AreBytes n i a → AreBytes n i b → littleEndian n i a ≡ littleEndian n i b
@@ -32,12 +29,11 @@ module _ (a b : List ℕ) (n : ℕ) (la : length a ≡ n) (lb : length b ≡ n) 
       (λ i h. let z : 0 + i ≡ i = omega arith in rw (← z) (same-bytes n 0 a b p q e i (omega (arith, h, la))))
 
   pub equal-by-numbers : eqb (littleEndian n 0 a) (littleEndian n 0 b) ≡ equal a b
-  equal-by-numbers = by (compared a b) refl
+  equal-by-numbers = by (eqb (littleEndian n 0 a) (littleEndian n 0 b)) refl
     where
-      by : (o : Order) → compared a b ≡ o → eqb (littleEndian n 0 a) (littleEndian n 0 b) ≡ isEqual o
-      by Less e = ne-eqb _ _ (λ w. false≢true (ap isEqual (sym e ∙ ap (compared a) (sym (same-lists w)) ∙ same-equal a)))
-      by Equal e = eq-eqb _ _ (ap (littleEndian n 0) (equal-same a b e))
-      by Greater e = ne-eqb _ _ (λ w. false≢true (ap isEqual (sym e ∙ ap (compared a) (sym (same-lists w)) ∙ same-equal a)))
+      by : (t : Bool) → eqb (littleEndian n 0 a) (littleEndian n 0 b) ≡ t → t ≡ equal a b
+      by true e = sym (ap (λ s. equal a s) (sym (same-lists (eqb-true _ _ e))) ∙ ap isEqual (same-equal a))
+      by false e = sym (differs a b (λ s. eqb-false _ _ e (ap (littleEndian n 0) s)))
 
 -- the number in the bytes of a part
 pub number-in-part : (n i k m : ℕ) (s : List ℕ) → i + n ≤ m → littleEndian n (k + i) s ≡ littleEndian n i (take m (drop k s))

@@ -23,6 +23,9 @@ unfolding compared
 same-equal [] = refl
 same-equal (x ∷ a) = rw (le-ltb x x (omega arith)) (same-equal a)
 
+pub not-less : (a b : List ℕ) → a ≡ b → compared a b ≡ Less → ⊥
+not-less a b e h = false≢true (ap isLess (sym (same-equal a) ∙ ap (compared a) e ∙ h))
+
 pub equal-same : (a b : List ℕ) → compared a b ≡ Equal → a ≡ b
 unfolding compared
 equal-same [] [] e = refl

@@ -136,7 +136,7 @@ pub one-record-under-a-name : (t : List ℕ) → wellFormed t ≡ true
 one-record-under-a-name t h = one-record (records t) (ascends t (in-order t h))
 
 -- For any bytes as the name, halving gives the place of the record with that name, or tells that there is none. So it finds the record under
--- the name. The first 65 bytes of a name decide, and no more are read.
+-- the name. The first 65 bytes of a name decide; the code hands on no more.
 pub halving-finds : (t n : List ℕ) → ordered t ≡ true → Finds (records t) n (halving (records t) n)
 halving-finds t n h = finds (records t) n (ascends t h)
 

@@ -1,15 +1,14 @@
 -- Invariant: the search that is left, after the rounds that were made, is the whole search.
 use Prim.Native.Nat.{_+_, _-_, _*_, _/_, _≤_}
 use native.Mathlib.Omega.{arith}
-use mathlib.Core.Path.{_≡_, refl, sym, _∙_}
+use mathlib.Core.Path.{_≡_, sym, _∙_}
 use lib.ListN.{length}
 use borrow.Author.Needs.{needs}
-use Rattle.text.specs.Order.{compared}
 use Rattle.text.specs.declared.order.Order.the-variants.{Less, Equal, Greater}
 use Rattle.text.proofs.Laws.{part-length}
 use Rattle.settings.specs.Table.{records}
-use Rattle.halving.specs.Halving.{nameOfRecord, middle, halve, halving}
-use Rattle.halving.proofs.RecordsAt.{records-length, name-at}
+use Rattle.halving.specs.Halving.{middle, halve, halving}
+use Rattle.halving.proofs.RecordsAt.{records-length}
 use Rattle.halving.proofs.Steps.{after, after-none, after-found, after-nowhere, over, turns}
 use Rattle.halving.proofs.search.Statement.{statement}
 use Rattle.halving.proofs.search.Tie as tie
@@ -76,11 +75,9 @@ loop-again c =
     let at-test = c .before .before .before .before in
     let l = at-test .before .loop in
     let start = at-test .before .before .before .before .before in
-    let t = start .args .table .now in
-    let n = start .args .name .now in
-    let m = middle (l .low) (l .high) in
-    let order : compared n (nameOfRecord (records t) m) ≡ Less = rw (name-at t m (omega arith)) (sym (order-of .ensures) ∙ c .enum-told .given .1) in
-    let turned = turns (records t) n (length t / 128) (l .rounds) (l .low) (l .high) (at-test .loop-test .taken) (omega arith) Less order in
+    let args = start .args in
+    let turned = turns (args .table .now) (args .name .now) (l .rounds) (l .low) (l .high) (at-test .loop-test .taken) (omega arith) (omega arith)
+    (order-of .result) Less (order-of .ensures) (c .enum-told .given .1) in
     (omega arith, omega arith, l .inv .2 ∙ turned)
 
 enum-told-2 : tie.Need-enum-told-2 Inv-loop μ-loop
@@ -92,12 +89,10 @@ returns c =
     let at-test = c .before .before .before .before in
     let l = at-test .before .loop in
     let start = at-test .before .before .before .before .before in
-    let t = start .args .table .now in
-    let n = start .args .name .now in
-    let m = middle (l .low) (l .high) in
-    let order : compared n (nameOfRecord (records t) m) ≡ Equal = rw (name-at t m (omega arith)) (sym (order-of .ensures) ∙ c .enum-told2 .given .1) in
-    let turned = turns (records t) n (length t / 128) (l .rounds) (l .low) (l .high) (at-test .loop-test .taken) (omega arith) Equal order in
-    sym (l .inv .2 ∙ turned ∙ after-found (l .rounds + 1) m)
+    let args = start .args in
+    let turned = turns (args .table .now) (args .name .now) (l .rounds) (l .low) (l .high) (at-test .loop-test .taken) (omega arith) (omega arith)
+    (order-of .result) Equal (order-of .ensures) (c .enum-told2 .given .1) in
+    sym (l .inv .2 ∙ turned ∙ after-found (l .rounds + 1) (middle (l .low) (l .high)))
 
 enum-told-3 : tie.Need-enum-told-3 Inv-loop μ-loop
 enum-told-3 c = search needs
@@ -114,11 +109,9 @@ loop-again-2 c =
     let at-test = c .before .before .before .before in
     let l = at-test .before .loop in
     let start = at-test .before .before .before .before .before in
-    let t = start .args .table .now in
-    let n = start .args .name .now in
-    let m = middle (l .low) (l .high) in
-    let order : compared n (nameOfRecord (records t) m) ≡ Greater = rw (name-at t m (omega arith)) (sym (order-of .ensures) ∙ c .enum-told3 .given .1) in
-    let turned = turns (records t) n (length t / 128) (l .rounds) (l .low) (l .high) (at-test .loop-test .taken) (omega arith) Greater order in
+    let args = start .args in
+    let turned = turns (args .table .now) (args .name .now) (l .rounds) (l .low) (l .high) (at-test .loop-test .taken) (omega arith) (omega arith)
+    (order-of .result) Greater (order-of .ensures) (c .enum-told3 .given .1) in
     (omega arith, omega arith, l .inv .2 ∙ turned)
 
 returns-2 : tie.Need-returns-2 Inv-loop μ-loop
