@@ -11,7 +11,7 @@ import sys
 import tempfile
 
 ROOT = os.path.dirname(os.path.dirname(os.path.abspath(__file__)))
-SHAPE = re.compile(r"has no `Need-|has no field|is not in scope")
+SHAPE = re.compile(r"has no `Need-|has no field|error: .* is not in scope")
 
 
 def edits_of(crate):
