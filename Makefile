@@ -9,6 +9,7 @@
 # make house [NAME=..]        what can be told of the sources as text: crates.txt, the page of promises
 # make vectors [NAME=..]      vectors; NAME is a part, as value, or one vector, as value:7 or 'value:1 << 64'
 # make command [CASE=..]      cases of the command; CASE is a folder of tests/command/cases
+# make editors [NAME=..]      places of refusals in Vim and Emacs, which tests/editors/install installs; NAME is one of tests/editors/files.py
 # make documents [NAME=..]    examples of the manual and the README; NAME is a place, as README.md:9, a section or a part
 # make corpus                 what is said of every description file in the folder DIR, under the file SETTINGS if there is one
 # make bench                  speed beside the independent Rust implementation, and beside unifdef and cpp where they are installed
@@ -36,7 +37,7 @@ rt = @mkdir -p target/log; { { $(2); } 2>&1 | tee target/log/$(1).txt | sed -un 
 given = $(if $(filter command,$(origin $(1))),"$$$(1)")
 
 .NOTPARALLEL:
-.PHONY: all run quick test check must-fail fmt lint house vectors command documents corpus bench instructions fuzz clean help
+.PHONY: all run quick test check must-fail fmt lint house vectors command editors documents corpus bench instructions fuzz clean help
 
 all: target/libkorzhinay.so target/korzhinay
 
@@ -85,6 +86,9 @@ vectors: all
 
 command: all
 	python3 tests/command/run.py $(call given,CASE)
+
+editors: all
+	python3 tests/editors/run.py $(call given,NAME)
 
 documents: all
 	python3 tests/documents/run.py $(call given,NAME)

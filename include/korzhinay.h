@@ -7,6 +7,19 @@
  *
  * Refusals have numbers from 1 to 26; korzhinay_meaning, at the end, has their meanings. docs/LANGUAGE.md describes the language, with an
  * example of each refusal.
+ *
+ * Refusals 3 to 12 have a place, given as the offset of a byte from the start of the expression, in a selection from the start of the line:
+ *    3  the first byte of the bad token: of a string its quote, of a wide string its `L`, of a macro its `$`; or the byte that starts none
+ *    4  the first byte of the number literal
+ *    5  the first byte after token 200 that is no blank
+ *    6  the first `(` that is too deep
+ *    7  the first token after which nothing that could follow makes an expression, the limits left aside; or, if something could follow all
+ *       tokens, the `#` of the comment, or the end: the length of the expression or of the line, trailing blanks included
+ *    8  the leftmost bar outside parentheses
+ *    9  the leftmost PCD that is not in the table
+ *   10  the operator, `?` of `?:`; of several the leftmost one that has no wrong one inside its operands
+ *   11, 12  the operator that evaluation met first: a left operand comes before a right one, and skipped operands are not evaluated
+ * A token is at its first byte. The offset of every other refusal is 0.
  */
 #ifndef KORZHINAY_H
 #define KORZHINAY_H
@@ -50,10 +63,11 @@ uint8_t korzhinay_lookup(const uint8_t *table, size_t table_len, const uint8_t *
  *            5  something follows token 200, a token or not; blanks and a comment may follow
  *            6  at some token `(` outnumber `)` by more than 16
  *   out[1]  how many tokens were read: all of them with 0 and 6, none with 2, those before the fault with 3 and 4, 200 with 5
+ *   out[2]  the offset of the refusal; 0 without one, and for 2
  * The arrays hold of each token that was read: its code, one of enum korzhinay_code; its start, counted from 0; its length in bytes, quotes
  * and `L`, or `$(` and `)`, included; and the value of a number literal or a truth word (0 for any other). Entries from out[1] on stay as
  * they were. */
-void korzhinay_tokens(const uint8_t *expression, size_t expression_len, uint64_t out[2], uint8_t codes[200],
+void korzhinay_tokens(const uint8_t *expression, size_t expression_len, uint64_t out[3], uint8_t codes[200],
                       uint16_t starts[200], uint16_t lens[200], uint64_t values[200]);
 
 /* The codes of tokens. */
@@ -92,7 +106,7 @@ enum korzhinay_code {
     KORZHINAY_OR = 35             /* OR or */
 };
 
-/* The value of an expression under a table: 0 and the answer, or the refusal number, and then all six numbers are 0.
+/* The value of an expression under a table: 0 and the answer, or the refusal number, and then the first six numbers are 0.
  *   out[0]  the kind, one of enum korzhinay_kind
  *   out[1]  the number; 0 for a string, of either kind
  *   out[2]  how many operators were applied: every unary or binary one and every `?:` that was reached; those in skipped operands and
@@ -100,6 +114,7 @@ enum korzhinay_code {
  *   out[3]  which of the caller's arrays holds the bytes of a string, one of enum korzhinay_memory; 0 for a number
  *   out[4]  the offset at which they start in it; 0 for a number. An empty string starts between its quotes, or at byte 72 of its record
  *   out[5]  how many bytes the string has, without quotes; 0 for a number
+ *   out[6]  the offset of the refusal; 0 with a value, and for 1 and 2
  * Refusals; the first that applies is given, of 3, 4 and 5 the leftmost, of 11 and 12 the one that evaluation meets first:
  *    1  the table is malformed
  *    2  the expression is longer than 1,024 bytes
@@ -114,7 +129,7 @@ enum korzhinay_code {
  *   11  a result is below 0 or above 2^64 - 1; a left shift pushes a one out of the 64 bits
  *   12  zero divisor, of / or % */
 uint8_t korzhinay_evaluate(const uint8_t *expression, size_t expression_len, const uint8_t *table, size_t table_len,
-                           uint64_t out[6]);
+                           uint64_t out[7]);
 
 /* The kinds of a value. */
 enum korzhinay_kind {
@@ -129,8 +144,10 @@ enum korzhinay_memory {
     KORZHINAY_IN_TABLE = 1
 };
 
-/* The bytes of one PCD data field. With 0 the field is at the front of buffer, *written is how many bytes it has, and the bytes after it
- * stay as they were. With a refusal *written is 0 and every byte of buffer stays as it was.
+/* The bytes of one PCD data field. With 0 the field is at the front of buffer, and the bytes after it stay as they were. With a refusal
+ * every byte of buffer stays as it was.
+ *   out[0]  how many bytes the field has; 0 with a refusal
+ *   out[1]  the offset of the refusal; 0 without one, and for 1, 2 and 23 to 26
  * The field is a number in 1, 1, 2, 4 or 8 bytes, little endian, for BOOLEAN and UINT8 to UINT64; for VOID* it is a string and one
  * zero byte, or a wide string as two bytes for each of its own, that one and a zero, and two zero bytes.
  * No field has more than 2,044 bytes, so a buffer of 2,044 bytes is always enough.
@@ -140,7 +157,7 @@ enum korzhinay_memory {
  *   25  the number is too large for the datum; for BOOLEAN it is above 1
  *   26  buffer is shorter than the field */
 uint8_t korzhinay_field(uint8_t *buffer, size_t buffer_len, const uint8_t *expression, size_t expression_len,
-                        const uint8_t *table, size_t table_len, uint8_t datum, uint64_t *written);
+                        const uint8_t *table, size_t table_len, uint8_t datum, uint64_t out[2]);
 
 /* The datum codes of a field. */
 enum korzhinay_datum {
@@ -158,6 +175,7 @@ enum korzhinay_datum {
  *   out[0]  the line of the refusal, counted from 1; 0 without one, and for 1, 14, 15 and 16, which have no line
  *   out[1]  how many lines the file has; 0 with a refusal
  *   out[2]  how many operators were applied, summed over all expressions that were read; 0 with a refusal
+ *   out[3]  the offset of the refusal, counted from the first byte of its line; 0 without one, and for 1 and 13 to 22
  * A line ends at LF, and a CR right before that LF is part of the end. What follows the last LF is a line if it has any byte. No file
  * that is accepted has more than 4,096 lines, so 4,096 marks are always enough.
  * A line whose first byte, blanks left out, is `!` has as its word the letters after it; case matters. It is a directive if the word is
@@ -185,7 +203,7 @@ enum korzhinay_datum {
  * and after the last line:
  *   21  an !if, !ifdef or !ifndef is still open; the line is that of the innermost one */
 uint8_t korzhinay_select(uint8_t *marks, size_t marks_len, const uint8_t *file, size_t file_len, const uint8_t *table,
-                         size_t table_len, uint64_t out[3]);
+                         size_t table_len, uint64_t out[4]);
 
 /* The marks of lines. A directive is read if the outcome depends on it: if the branch around its group is taken or there is none and, for
  * !elseif and !elif, if no earlier branch of its group was taken. */

@@ -13,6 +13,20 @@ SIZE = ctypes.c_size_t
 
 # What is in a lent array before a call: entries that a call must not write have to keep it.
 CODE, START, LENGTH, VALUE = 0xA5, 0xA5A5, 0x5A5A, 0xA5A5A5A5A5A5A5A5
+# How many numbers after a lent array of numbers are looked at as well.
+GUARDS = 2
+
+
+def numbers(count):
+    """An array of this many numbers to lend, and guards after it."""
+    return (ctypes.c_uint64 * (count + GUARDS))(*[VALUE] * (count + GUARDS))
+
+
+def taken_back(out):
+    """The numbers of an array that was lent; its guards must stay."""
+    if tuple(out[-GUARDS:]) != (VALUE,) * GUARDS:
+        raise AssertionError("more than %d numbers were written" % (len(out) - GUARDS))
+    return tuple(out[:-GUARDS])
 
 
 def table(data):
@@ -21,33 +35,32 @@ def table(data):
 
 def lookup(data, name):
     """The refusal number (0: none) and the three numbers of the answer, as they were before on a refusal."""
-    out = (ctypes.c_uint64 * 3)(*[VALUE] * 3)
+    out = numbers(3)
     refusal = LIB.korzhinay_lookup(data, SIZE(len(data)), name, SIZE(len(name)), out)
-    return refusal, tuple(out)
+    return refusal, taken_back(out)
 
 
 def tokens(expression):
-    """The refusal number (0: none) and the tokens that were read, each (code, start, length, value)."""
-    out = (ctypes.c_uint64 * 2)()
+    """The refusal's number (0: none) and offset, and the tokens that were read, each (code, start, length, value)."""
+    out = numbers(3)
     codes = (ctypes.c_uint8 * 200)(*[CODE] * 200)
     starts = (ctypes.c_uint16 * 200)(*[START] * 200)
     lens = (ctypes.c_uint16 * 200)(*[LENGTH] * 200)
     values = (ctypes.c_uint64 * 200)(*[VALUE] * 200)
     LIB.korzhinay_tokens(expression, SIZE(len(expression)), out, codes, starts, lens, values)
-    number, count = out
+    number, count, offset = taken_back(out)
     for i in range(count, 200):
         if (codes[i], starts[i], lens[i], values[i]) != (CODE, START, LENGTH, VALUE):
             raise AssertionError("entry %d was written, of %d" % (i, count))
-    return number, [(codes[i], starts[i], lens[i], values[i]) for i in range(count)]
+    return number, offset, [(codes[i], starts[i], lens[i], values[i]) for i in range(count)]
 
 
 def evaluate(expression, table):
-    """The refusal number (0: none) and the six numbers of the answer; those after them must stay."""
-    out = (ctypes.c_uint64 * 8)(*[VALUE] * 8)
+    """The refusal's number (0: none) and offset, and the six numbers of the answer."""
+    out = numbers(7)
     refusal = LIB.korzhinay_evaluate(expression, SIZE(len(expression)), table, SIZE(len(table)), out)
-    if tuple(out[6:]) != (VALUE, VALUE):
-        raise AssertionError("a seventh number was written")
-    return refusal, tuple(out[:6])
+    *answer, offset = taken_back(out)
+    return refusal, offset, tuple(answer)
 
 
 def untouched(length):
@@ -56,17 +69,18 @@ def untouched(length):
 
 
 def field(expression, table, datum, room):
-    """The refusal number (0: none), the length of the field and every byte of the buffer; those after it must stay."""
+    """The refusal's number (0: none) and offset, the length of the field and every byte of the buffer; those after it must stay."""
     before = untouched(room + 16)
     buffer = (ctypes.c_uint8 * (room + 16))(*before)
-    length = ctypes.c_uint64(VALUE)
+    out = numbers(2)
     refusal = LIB.korzhinay_field(
-        buffer, SIZE(room), expression, SIZE(len(expression)), table, SIZE(len(table)), ctypes.c_uint8(datum), ctypes.byref(length)
+        buffer, SIZE(room), expression, SIZE(len(expression)), table, SIZE(len(table)), ctypes.c_uint8(datum), out
     )
     after = bytes(buffer)
     if after[room:] != before[room:]:
         raise AssertionError("bytes past the buffer were written")
-    return refusal, length.value, after[:room]
+    length, offset = taken_back(out)
+    return refusal, offset, length, after[:room]
 
 
 def unmarked(length):
@@ -75,14 +89,14 @@ def unmarked(length):
 
 
 def select(file, table, room):
-    """The refusal number (0: none), the three numbers of the answer and every byte of the marks; those after both must stay."""
+    """The refusal's number (0: none), line and offset, how many lines and operators there are, and every byte of the marks; those after it
+    must stay."""
     before = unmarked(room + 16)
     marks = (ctypes.c_uint8 * (room + 16)).from_buffer_copy(before)
-    out = (ctypes.c_uint64 * 5)(*[VALUE] * 5)
+    out = numbers(4)
     refusal = LIB.korzhinay_select(marks, SIZE(room), file, SIZE(len(file)), table, SIZE(len(table)), out)
     after = bytes(marks)
     if after[room:] != before[room:]:
         raise AssertionError("bytes past the marks were written")
-    if tuple(out[3:]) != (VALUE, VALUE):
-        raise AssertionError("a fourth number was written")
-    return refusal, tuple(out[:3]), after[:room]
+    line, lines, count, offset = taken_back(out)
+    return refusal, line, offset, lines, count, after[:room]

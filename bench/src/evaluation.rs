@@ -75,8 +75,8 @@ fn time_small(of: &str, rounds: usize, small: &[String], table: &[u8]) {
     );
 }
 
-fn answer(text: &str, table: &[u8]) -> (u8, [u64; 6]) {
-    let mut out = [0; 6];
+fn answer(text: &str, table: &[u8]) -> (u8, [u64; 7]) {
+    let mut out = [0; 7];
     let refusal = bindings::evaluate(text.as_bytes(), table, &mut out);
     (refusal, out)
 }

@@ -75,15 +75,15 @@ fn time_one(file: &str, table: &[u8]) -> (Duration, Duration) {
     )
 }
 
-fn proved(file: &[u8], table: &[u8], marks: &mut [u8]) -> (u8, [u64; 3]) {
-    let mut out = [0; 3];
+fn proved(file: &[u8], table: &[u8], marks: &mut [u8]) -> (u8, [u64; 4]) {
+    let mut out = [0; 4];
     let refusal = bindings::select(marks, file, table, &mut out);
     (refusal, out)
 }
 
 /// Checks that the file is accepted, with the same marks and count on both sides.
 fn check(file: &[u8], table: &[u8], marks: &mut [u8], others: &mut [u8]) {
-    let (refusal, [_, lines, count]) = proved(file, table, marks);
+    let (refusal, [_, lines, count, _]) = proved(file, table, marks);
     let other = oracle::select(file, table, others);
     assert!(refusal == 0 && other == Ok((lines as usize, count)) && marks == others);
 }

@@ -11,7 +11,7 @@ use crate::timing::compare;
 
 /// What the library writes: the refusal and the number of tokens, then of each token its code, start, length and value.
 struct Lent {
-    out: [u64; 2],
+    out: [u64; 3],
     codes: [u8; MAX_TOKENS],
     starts: [u16; MAX_TOKENS],
     lens: [u16; MAX_TOKENS],
@@ -63,7 +63,7 @@ fn long() -> String {
 impl Lent {
     fn new() -> Lent {
         Lent {
-            out: [0; 2],
+            out: [0; 3],
             codes: [0; MAX_TOKENS],
             starts: [0; MAX_TOKENS],
             lens: [0; MAX_TOKENS],
@@ -86,7 +86,7 @@ impl Lent {
     /// Checks that both sides read the same tokens, without a refusal.
     fn check(&mut self, text: &str) {
         self.scan(text);
-        let [refusal, count] = self.out;
+        let [refusal, count, _] = self.out;
         let tokens = (0..count as usize).map(|i| Token {
             code: self.codes[i],
             start: self.starts[i].into(),

@@ -26,17 +26,18 @@ pub fn lookup(table: &[u8], name: &[u8], out: &mut [u64; 3]) -> u8 {
     }
 }
 
-/// The tokens of an expression: the refusal number or 0, how many tokens there are, and the code, start, length and value of each.
+/// The tokens of an expression: the refusal number or 0, how many tokens there are and the refusal's offset; and the code, start,
+/// length and value of each token.
 #[inline]
 pub fn tokens(
     expression: &[u8],
-    out: &mut [u64; 2],
+    out: &mut [u64; 3],
     codes: &mut [u8; MAX_TOKENS],
     starts: &mut [u16; MAX_TOKENS],
     lens: &mut [u16; MAX_TOKENS],
     values: &mut [u64; MAX_TOKENS],
 ) {
-    // SAFETY: the call reads a slice by its length, and writes 2 numbers and within four arrays of 200 entries; each of these is
+    // SAFETY: the call reads a slice by its length, and writes 3 numbers and within four arrays of 200 entries; each of these is
     // borrowed alone.
     unsafe {
         raw::korzhinay_tokens(
@@ -51,10 +52,11 @@ pub fn tokens(
     }
 }
 
-/// The value of an expression under a table: 0 or the refusal number, and kind, number, count of operators, memory, start and length.
+/// The value of an expression under a table: 0 or the refusal number, and kind, number, count of operators, memory, start, length and
+/// the refusal's offset.
 #[inline]
-pub fn evaluate(expression: &[u8], table: &[u8], out: &mut [u64; 6]) -> u8 {
-    // SAFETY: the call reads two slices by their lengths and writes the 6 numbers of `out`, which is borrowed alone.
+pub fn evaluate(expression: &[u8], table: &[u8], out: &mut [u64; 7]) -> u8 {
+    // SAFETY: the call reads two slices by their lengths and writes the 7 numbers of `out`, which is borrowed alone.
     unsafe {
         raw::korzhinay_evaluate(
             expression.as_ptr(),
@@ -66,17 +68,17 @@ pub fn evaluate(expression: &[u8], table: &[u8], out: &mut [u64; 6]) -> u8 {
     }
 }
 
-/// The bytes of a data field, at the front of the buffer, and how many they are: 0 or the refusal number.
+/// The bytes of a data field, at the front of the buffer: 0 or the refusal number, and how many bytes they are and the refusal's offset.
 #[inline]
 pub fn field(
     buffer: &mut [u8],
     expression: &[u8],
     table: &[u8],
     datum: u8,
-    written: &mut u64,
+    out: &mut [u64; 2],
 ) -> u8 {
-    // SAFETY: the call reads two slices by their lengths, and writes within the buffer by its length and one number; both are
-    // borrowed alone.
+    // SAFETY: the call reads two slices by their lengths, and writes within the buffer by its length and the 2 numbers of `out`; both
+    // are borrowed alone.
     unsafe {
         raw::korzhinay_field(
             buffer.as_mut_ptr(),
@@ -86,15 +88,16 @@ pub fn field(
             table.as_ptr(),
             table.len(),
             datum,
-            written,
+            out.as_mut_ptr(),
         )
     }
 }
 
-/// The marks of the lines of a file: 0 or the refusal number, and the refusal's line, the number of lines and the count of operators.
+/// The marks of the lines of a file: 0 or the refusal number, and the refusal's line, the number of lines, the count of operators and
+/// the refusal's offset in its line.
 #[inline]
-pub fn select(marks: &mut [u8], file: &[u8], table: &[u8], out: &mut [u64; 3]) -> u8 {
-    // SAFETY: the call reads two slices by their lengths, and writes within the marks by their length and the 3 numbers of `out`;
+pub fn select(marks: &mut [u8], file: &[u8], table: &[u8], out: &mut [u64; 4]) -> u8 {
+    // SAFETY: the call reads two slices by their lengths, and writes within the marks by their length and the 4 numbers of `out`;
     // both are borrowed alone.
     unsafe {
         raw::korzhinay_select(

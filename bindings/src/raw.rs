@@ -24,7 +24,7 @@ extern "C" {
         out: *mut u64,
     ) -> u8;
 
-    /// The expression has `expression_len` bytes; `out` has 2 numbers, each of the other arrays 200 entries.
+    /// The expression has `expression_len` bytes; `out` has 3 numbers, each of the other arrays 200 entries.
     pub fn korzhinay_tokens(
         expression: *const u8,
         expression_len: usize,
@@ -35,7 +35,7 @@ extern "C" {
         values: *mut u64,
     );
 
-    /// The expression has `expression_len` bytes, the table `table_len`; `out` has 6 numbers.
+    /// The expression has `expression_len` bytes, the table `table_len`; `out` has 7 numbers.
     pub fn korzhinay_evaluate(
         expression: *const u8,
         expression_len: usize,
@@ -44,7 +44,7 @@ extern "C" {
         out: *mut u64,
     ) -> u8;
 
-    /// The buffer has `buffer_len` bytes, the expression `expression_len`, the table `table_len`; `written` is one number.
+    /// The buffer has `buffer_len` bytes, the expression `expression_len`, the table `table_len`; `out` has 2 numbers.
     pub fn korzhinay_field(
         buffer: *mut u8,
         buffer_len: usize,
@@ -53,10 +53,10 @@ extern "C" {
         table: *const u8,
         table_len: usize,
         datum: u8,
-        written: *mut u64,
+        out: *mut u64,
     ) -> u8;
 
-    /// There are `marks_len` marks, a byte each; the file has `file_len` bytes, the table `table_len`; `out` has 3 numbers.
+    /// There are `marks_len` marks, a byte each; the file has `file_len` bytes, the table `table_len`; `out` has 4 numbers.
     pub fn korzhinay_select(
         marks: *mut u8,
         marks_len: usize,

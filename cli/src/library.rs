@@ -1,6 +1,7 @@
 //! The calls of the proved library, with answers in Rust's types.
 
 mod evaluation;
+mod refusal;
 mod selection;
 mod table;
 mod tokens;
@@ -8,7 +9,8 @@ mod value;
 
 pub use bindings::{datum, kind, limit, mark, token};
 pub use evaluation::{evaluate, field};
-pub use selection::{select, Refused};
+pub use refusal::Refusal;
+pub use selection::select;
 pub use table::{check_table, lookup};
 pub use tokens::{single_token, tokens, Token};
 pub use value::Value;

@@ -5,6 +5,7 @@
 
 mod commands;
 mod library;
+mod refusals;
 mod settings;
 mod terminal;
 

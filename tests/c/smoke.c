@@ -100,7 +100,7 @@ static void check_lookup(const uint8_t *table, size_t table_len, const uint8_t *
 }
 
 struct tokens {
-    uint64_t out[2], values[200];
+    uint64_t out[3], values[200];
     uint16_t starts[200], lens[200];
     uint8_t codes[200];
 };
@@ -108,12 +108,12 @@ struct tokens {
 static void tokens(const char *text, struct tokens *t)
 {
     struct lent out, codes, starts, lens, values;
-    uint64_t *two = lend(&out, sizeof t->out), *numbers = lend(&values, sizeof t->values);
+    uint64_t *three = lend(&out, sizeof t->out), *numbers = lend(&values, sizeof t->values);
     uint16_t *offsets = lend(&starts, sizeof t->starts), *lengths = lend(&lens, sizeof t->lens);
     uint8_t *sorts = lend(&codes, sizeof t->codes);
 
-    korzhinay_tokens((const uint8_t *)text, length_of(text), two, sorts, offsets, lengths, numbers);
-    take_back("beside two numbers", &out, t->out, sizeof t->out);
+    korzhinay_tokens((const uint8_t *)text, length_of(text), three, sorts, offsets, lengths, numbers);
+    take_back("beside three numbers of tokens", &out, t->out, sizeof t->out);
     take_back("beside codes", &codes, t->codes, sizeof t->codes);
     take_back("beside starts", &starts, t->starts, sizeof t->starts);
     take_back("beside lengths", &lens, t->lens, sizeof t->lens);
@@ -128,42 +128,66 @@ static int stays_from(size_t first, const struct tokens *t)
         && untouched(t->lens + first, rest * sizeof t->lens[0]) && untouched(t->values + first, rest * sizeof t->values[0]);
 }
 
+static int scanned(const struct tokens *t, uint64_t refusal, uint64_t count, uint64_t offset)
+{
+    return t->out[0] == refusal && t->out[1] == count && t->out[2] == offset && stays_from(count, t);
+}
+
 static void check_tokens(void)
 {
-    static char most[201];
+    static char most[202], deep[18];
     struct tokens t;
 
     tokens("$(WEEK) <= 5", &t);
-    check("three tokens, and no more", t.out[0] == 0 && t.out[1] == 3 && stays_from(3, &t));
+    check("three tokens, and no more", scanned(&t, 0, 3, 0));
     check("their codes", t.codes[0] == KORZHINAY_MACRO && t.codes[1] == KORZHINAY_LESS_EQUAL && t.codes[2] == KORZHINAY_NUMBER);
     check("the last one's place and value", t.starts[2] == 11 && t.lens[2] == 1 && t.values[2] == 5);
     tokens(NULL, &t);
-    check("an empty expression", t.out[0] == 0 && t.out[1] == 0 && stays_from(0, &t));
+    check("an empty expression", scanned(&t, 0, 0, 0));
     memset(most, '~', 200);
     tokens(most, &t);
-    check("200 tokens", t.out[0] == 0 && t.out[1] == 200 && t.codes[199] == KORZHINAY_COMPLEMENT && t.starts[199] == 199);
+    check("200 tokens", scanned(&t, 0, 200, 0) && t.codes[199] == KORZHINAY_COMPLEMENT && t.starts[199] == 199);
+    most[200] = '~';
+    tokens(most, &t);
+    check("201 tokens", scanned(&t, 5, 200, 200));
+    memset(deep, '(', 17);
+    tokens(deep, &t);
+    check("17 parentheses", scanned(&t, 6, 17, 16));
     tokens("1 @", &t);
-    check("a token before a fault", t.out[0] == 3 && t.out[1] == 1 && stays_from(1, &t));
+    check("a token before a fault", scanned(&t, 3, 1, 2));
+    tokens("1 + 18446744073709551616", &t);
+    check("a number too large", scanned(&t, 4, 2, 4));
+    tokens("1 2", &t);
+    check("no expression, but tokens", scanned(&t, 0, 2, 0));
 }
 
-static uint8_t evaluate(const char *text, const uint8_t *table, size_t table_len, uint64_t out[6])
+static uint8_t evaluate(const char *text, const uint8_t *table, size_t table_len, uint64_t out[7])
 {
     struct lent lent;
-    uint64_t *six = lend(&lent, 6 * sizeof out[0]);
-    uint8_t refusal = korzhinay_evaluate((const uint8_t *)text, length_of(text), table, table_len, six);
-    take_back("beside six numbers", &lent, out, 6 * sizeof out[0]);
+    uint64_t *seven = lend(&lent, 7 * sizeof out[0]);
+    uint8_t refusal = korzhinay_evaluate((const uint8_t *)text, length_of(text), table, table_len, seven);
+    take_back("beside seven numbers", &lent, out, 7 * sizeof out[0]);
     return refusal;
 }
 
-static int answers(const uint64_t out[6], uint64_t kind, uint64_t number, uint64_t count, uint64_t memory, uint64_t start,
+static int answers(const uint64_t out[7], uint64_t kind, uint64_t number, uint64_t count, uint64_t memory, uint64_t start,
                    uint64_t length)
 {
-    return out[0] == kind && out[1] == number && out[2] == count && out[3] == memory && out[4] == start && out[5] == length;
+    return out[0] == kind && out[1] == number && out[2] == count && out[3] == memory && out[4] == start && out[5] == length && out[6] == 0;
+}
+
+/* Of a refusal: six zeros and the offset. */
+static int refused_at(const uint64_t out[7], uint64_t offset)
+{
+    for (size_t i = 0; i < 6; i++)
+        if (out[i] != 0)
+            return 0;
+    return out[6] == offset;
 }
 
 static void check_evaluation(const uint8_t *table, size_t table_len)
 {
-    uint64_t out[6];
+    uint64_t out[7];
 
     check("an expression", evaluate("1 + 2 * $(WEEK)", table, table_len, out) == 0);
     check("its value and count", answers(out, KORZHINAY_KIND_NUMBER, 97, 2, 0, 0, 0));
@@ -172,23 +196,27 @@ static void check_evaluation(const uint8_t *table, size_t table_len)
     check("a wide string of the table", evaluate("$(NAME)", table, table_len, out) == 0);
     check("its place in the table", answers(out, KORZHINAY_KIND_WIDE, 0, 0, KORZHINAY_IN_TABLE, 72, 2));
     check("a zero divisor", evaluate("1 / 0", table, table_len, out) == 12);
-    check("and six zeros", answers(out, 0, 0, 0, 0, 0, 0));
+    check("six zeros, and the operator", refused_at(out, 2));
+    check("kinds", evaluate("'b' + ($(NAME) - 1)", table, table_len, out) == 10);
+    check("at the inner operator", refused_at(out, 15));
+    check("a good beginning", evaluate("1 + # 2", NULL, 0, out) == 7);
+    check("at the comment", refused_at(out, 4));
     check("a table cut short", evaluate("1", table, table_len - 1, out) == 1);
-    check("and six zeros again", answers(out, 0, 0, 0, 0, 0, 0));
-    check("nothing at all", evaluate(NULL, NULL, 0, out) == 7 && answers(out, 0, 0, 0, 0, 0, 0));
+    check("has no place", refused_at(out, 0));
+    check("nothing at all", evaluate(NULL, NULL, 0, out) == 7 && refused_at(out, 0));
 }
 
 /* Of a buffer of so many bytes, at most 8; without any there is none. */
 static uint8_t field(uint8_t buffer[8], size_t room, const char *text, const uint8_t *table, size_t table_len, uint8_t datum,
-                     uint64_t *length)
+                     uint64_t out[2])
 {
-    struct lent bytes, number;
+    struct lent bytes, numbers;
     uint8_t *start = lend(&bytes, room);
-    uint64_t *count = lend(&number, sizeof *length);
+    uint64_t *two = lend(&numbers, 2 * sizeof out[0]);
     uint8_t refusal = korzhinay_field(room > 0 ? start : NULL, room, (const uint8_t *)text, length_of(text), table, table_len, datum,
-                                      count);
+                                      two);
     take_back("beside a field", &bytes, buffer, 8);
-    take_back("beside a field's length", &number, length, sizeof *length);
+    take_back("beside a field's two numbers", &numbers, out, 2 * sizeof out[0]);
     return refusal;
 }
 
@@ -200,43 +228,56 @@ static int holds(const uint8_t buffer[8], const char *bytes, size_t count)
     return 1;
 }
 
+/* Whether a field has so many bytes, and no other is written. */
+static int written(const uint64_t out[2], const uint8_t buffer[8], const char *bytes, size_t count)
+{
+    return out[0] == count && out[1] == 0 && holds(buffer, bytes, count);
+}
+
+/* Whether nothing was written, and the refusal is at this offset. */
+static int left(const uint64_t out[2], const uint8_t buffer[8], uint64_t offset)
+{
+    return out[0] == 0 && out[1] == offset && holds(buffer, "", 0);
+}
+
 static void check_field(const uint8_t *table, size_t table_len)
 {
     uint8_t buffer[8];
-    uint64_t length;
+    uint64_t out[2];
 
-    check("a number", field(buffer, 8, "$(WEEK) << 8", table, table_len, KORZHINAY_DATUM_UINT16, &length) == 0);
-    check("its two bytes, and no more", length == 2 && holds(buffer, "\0\x30", 2));
-    check("a string", field(buffer, 3, "'ab'", NULL, 0, KORZHINAY_DATUM_VOID, &length) == 0);
-    check("its bytes and a zero", length == 3 && holds(buffer, "ab", 3));
-    check("a wide string", field(buffer, 8, "$(NAME)", table, table_len, KORZHINAY_DATUM_VOID, &length) == 0);
-    check("two bytes each", length == 6 && holds(buffer, "x\0y\0\0", 6));
-    check("a string too long", field(buffer, 2, "'ab'", NULL, 0, KORZHINAY_DATUM_VOID, &length) == 26);
-    check("leaves the buffer", length == 0 && holds(buffer, "", 0));
-    check("a number too large", field(buffer, 8, "2", NULL, 0, KORZHINAY_DATUM_BOOLEAN, &length) == 25);
-    check("a number for VOID*", field(buffer, 8, "2", NULL, 0, KORZHINAY_DATUM_VOID, &length) == 24);
-    check("an unknown datum", field(buffer, 8, "2", NULL, 0, 6, &length) == 23);
-    check("a missing PCD first", field(buffer, 8, "g.Pcd", table, table_len, 6, &length) == 9);
-    check("no buffer", field(buffer, 0, "1", NULL, 0, KORZHINAY_DATUM_UINT8, &length) == 26 && length == 0);
-    check("all of a buffer", field(buffer, 8, "~0", NULL, 0, KORZHINAY_DATUM_UINT64, &length) == 0);
-    check("eight bytes", length == 8 && holds(buffer, "\xFF\xFF\xFF\xFF\xFF\xFF\xFF\xFF", 8));
+    check("a number", field(buffer, 8, "$(WEEK) << 8", table, table_len, KORZHINAY_DATUM_UINT16, out) == 0);
+    check("its two bytes, and no more", written(out, buffer, "\0\x30", 2));
+    check("a string", field(buffer, 3, "'ab'", NULL, 0, KORZHINAY_DATUM_VOID, out) == 0);
+    check("its bytes and a zero", written(out, buffer, "ab", 3));
+    check("a wide string", field(buffer, 8, "$(NAME)", table, table_len, KORZHINAY_DATUM_VOID, out) == 0);
+    check("two bytes each", written(out, buffer, "x\0y\0\0", 6));
+    check("a string too long", field(buffer, 2, "'ab'", NULL, 0, KORZHINAY_DATUM_VOID, out) == 26);
+    check("leaves the buffer", left(out, buffer, 0));
+    check("a number too large", field(buffer, 8, "2", NULL, 0, KORZHINAY_DATUM_BOOLEAN, out) == 25 && left(out, buffer, 0));
+    check("a number for VOID*", field(buffer, 8, "2", NULL, 0, KORZHINAY_DATUM_VOID, out) == 24 && left(out, buffer, 0));
+    check("an unknown datum", field(buffer, 8, "2", NULL, 0, 6, out) == 23 && left(out, buffer, 0));
+    check("a missing PCD first", field(buffer, 8, "1 + g.Pcd", table, table_len, 6, out) == 9 && left(out, buffer, 4));
+    check("a bar outside parentheses", field(buffer, 8, "(1 | 2) | 4", NULL, 0, KORZHINAY_DATUM_UINT8, out) == 8 && left(out, buffer, 8));
+    check("no buffer", field(buffer, 0, "1", NULL, 0, KORZHINAY_DATUM_UINT8, out) == 26 && left(out, buffer, 0));
+    check("all of a buffer", field(buffer, 8, "~0", NULL, 0, KORZHINAY_DATUM_UINT64, out) == 0);
+    check("eight bytes", written(out, buffer, "\xFF\xFF\xFF\xFF\xFF\xFF\xFF\xFF", 8));
 }
 
 /* With so many marks, at most 8; without any there is no array. */
-static uint8_t selection(uint8_t marks[8], size_t room, const char *file, const uint8_t *table, size_t table_len, uint64_t out[3])
+static uint8_t selection(uint8_t marks[8], size_t room, const char *file, const uint8_t *table, size_t table_len, uint64_t out[4])
 {
     struct lent bytes, numbers;
     uint8_t *start = lend(&bytes, room);
-    uint64_t *three = lend(&numbers, 3 * sizeof out[0]);
-    uint8_t refusal = korzhinay_select(room > 0 ? start : NULL, room, (const uint8_t *)file, length_of(file), table, table_len, three);
+    uint64_t *four = lend(&numbers, 4 * sizeof out[0]);
+    uint8_t refusal = korzhinay_select(room > 0 ? start : NULL, room, (const uint8_t *)file, length_of(file), table, table_len, four);
     take_back("beside marks", &bytes, marks, 8);
-    take_back("beside three numbers", &numbers, out, 3 * sizeof out[0]);
+    take_back("beside four numbers", &numbers, out, 4 * sizeof out[0]);
     return refusal;
 }
 
-static int shows(const uint64_t out[3], uint64_t line, uint64_t lines, uint64_t count)
+static int shows(const uint64_t out[4], uint64_t line, uint64_t lines, uint64_t count, uint64_t offset)
 {
-    return out[0] == line && out[1] == lines && out[2] == count;
+    return out[0] == line && out[1] == lines && out[2] == count && out[3] == offset;
 }
 
 static int refused(const uint8_t marks[8], size_t room)
@@ -252,24 +293,28 @@ static void check_selection(const uint8_t *table, size_t table_len)
     static const char group[] = {KORZHINAY_MARK_TAKEN, KORZHINAY_MARK_KEPT, KORZHINAY_MARK_UNREAD, KORZHINAY_MARK_DROPPED,
                                  KORZHINAY_MARK_NOT_TAKEN, KORZHINAY_MARK_END};
     uint8_t marks[8];
-    uint64_t out[3];
+    uint64_t out[4];
 
     check("a file", selection(marks, 8, "!if $(WEEK) / 2 == 24\na\n!elif @\nb\n!else\r\n!endif", table, table_len, out) == 0);
-    check("its six marks, and no more", shows(out, 0, 6, 2) && holds(marks, group, 6));
+    check("its six marks, and no more", shows(out, 0, 6, 2, 0) && holds(marks, group, 6));
     check("a name that is set", selection(marks, 2, "!ifndef WEEK\n!endif # c\n", table, table_len, out) == 0);
-    check("two marks for two lines", shows(out, 0, 2, 0) && holds(marks, "\3\5", 2));
+    check("two marks for two lines", shows(out, 0, 2, 0, 0) && holds(marks, "\3\5", 2));
     check("a mark too few", selection(marks, 1, "a\nb", table, table_len, out) == 16);
-    check("of no line", shows(out, 0, 0, 0) && refused(marks, 1));
-    check("a zero divisor", selection(marks, 8, "a\n!if 1 / 0\n!endif\n", table, table_len, out) == 12);
-    check("in line 2, every mark 255", shows(out, 2, 0, 0) && refused(marks, 8));
+    check("of no line", shows(out, 0, 0, 0, 0) && refused(marks, 1));
+    check("a zero divisor", selection(marks, 8, "a\n !if 1 / 0\n!endif\n", table, table_len, out) == 12);
+    check("in line 2 at byte 7, every mark 255", shows(out, 2, 0, 0, 7) && refused(marks, 8));
+    check("a condition without an expression", selection(marks, 8, "!if  \r\n", NULL, 0, out) == 7);
+    check("at the end of its line", shows(out, 1, 0, 0, 5) && refused(marks, 8));
+    check("no condition", selection(marks, 8, "!if 2\n!endif", NULL, 0, out) == 13);
+    check("has a line and no place in it", shows(out, 1, 0, 0, 0) && refused(marks, 8));
     check("an open group", selection(marks, 7, "!if 1\n!if 0\n", NULL, 0, out) == 21);
-    check("the inner one", shows(out, 2, 0, 0) && refused(marks, 7));
+    check("the inner one", shows(out, 2, 0, 0, 0) && refused(marks, 7));
     check("a table cut short", selection(marks, 8, "a", table, table_len - 1, out) == 1);
-    check("and every mark 255 again", shows(out, 0, 0, 0) && refused(marks, 8));
-    check("an unknown word", selection(marks, 8, "!iff 1", NULL, 0, out) == 18 && shows(out, 1, 0, 0));
-    check("no file, no marks", selection(marks, 0, NULL, NULL, 0, out) == 0 && shows(out, 0, 0, 0));
+    check("and every mark 255 again", shows(out, 0, 0, 0, 0) && refused(marks, 8));
+    check("an unknown word", selection(marks, 8, "!iff 1", NULL, 0, out) == 18 && shows(out, 1, 0, 0, 0));
+    check("no file, no marks", selection(marks, 0, NULL, NULL, 0, out) == 0 && shows(out, 0, 0, 0, 0));
     check("as many marks as lines", selection(marks, 8, "\n\n\n\n\n\n\n\n", NULL, 0, out) == 0);
-    check("eight", shows(out, 0, 8, 0) && holds(marks, "\1\1\1\1\1\1\1\1", 8));
+    check("eight", shows(out, 0, 8, 0, 0) && holds(marks, "\1\1\1\1\1\1\1\1", 8));
 }
 
 static int means(uint8_t number, const char *meaning)

@@ -46,6 +46,15 @@ def refusals():
     yield "refusals of the man page", listed, wanted
 
 
+def message():
+    """The page's message is what the command prints."""
+    shown = section(page(), "REFUSALS").split("\n.EX\n")[1].split(".EE\n")[0]
+    with tempfile.TemporaryDirectory() as folder:
+        with open(os.path.join(folder, "board.dsc"), "wb") as file:
+            file.write(b'a\nb\n!if $(TARGET) == "DEBUG"\n!endif\n')
+        yield "the message of the man page", answer(["select", "board.dsc"], folder=folder), (b"", shown.encode(), 1)
+
+
 def examples():
     """The page's examples work, one after the other."""
     lines = [line for line in section(page(), "EXAMPLES").splitlines() if line.startswith("korzhinay ")]
@@ -65,6 +74,6 @@ def version():
 
 
 def checks():
-    for part in (options_of_helps, refusals, examples, version):
+    for part in (options_of_helps, refusals, message, examples, version):
         if chosen("manual_" + part.__name__, "manual"):
             yield from part()

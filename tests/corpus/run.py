@@ -13,8 +13,10 @@ COMMAND = os.path.join(HERE, "..", "..", "target", "korzhinay")
 ENDINGS = (".dsc", ".fdf", ".dsc.inc", ".fdf.inc")
 # the longest accepted file takes a few milliseconds
 SECONDS = 10
-# what is said of a refusal of standard input, by which a file is handed over: no path can be taken for an answer; a line may follow
-REFUSAL = re.compile(r"-(?::(\d+))?: refused \((\d+)\): (.*)\n")
+# what is said of a refusal of standard input, by which a file is handed over: no path can be taken for an answer; its line may follow
+REFUSAL = re.compile(r"-:(\d+):\d+: refused \((\d+)\): (.*)\n")
+# the refusals of a whole file, which are shown at its start
+WHOLE = {"14", "15"}
 # a line of a report; a path may have words of an answer in it, an answer not
 REPORTED = re.compile(r"(.*): ((?:accepted,|refused \(\d+\)).*)")
 
@@ -39,7 +41,7 @@ def refused(message):
     if not match:
         return None
     line, number, meaning = match.groups()
-    return "refused (%s)%s: %s" % (number, " at line " + line if line else "", meaning)
+    return "refused (%s)%s: %s" % (number, "" if number in WHOLE else " at line " + line, meaning)
 
 
 def answer(path, options):

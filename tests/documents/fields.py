@@ -16,7 +16,7 @@ TOPS = {"0 or 1": 1, "any number": 2**64 - 1}
 def field(code, name, expression):
     """A field by the type's name, from the command, and by its code, from the library: its bytes, or a refusal."""
     printed = ask("field", "--datum", name, expression)
-    refusal, length, buffer = library.field(expression.encode(), b"", code, ROOM)
+    refusal, _, length, buffer = library.field(expression.encode(), b"", code, ROOM)
     return bytes.fromhex(printed.decode()) if isinstance(printed, bytes) else printed, refusal or buffer[:length]
 
 

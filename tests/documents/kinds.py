@@ -44,7 +44,7 @@ def asked(form):
     """The answer to a form with operands of every kind: the operands' kinds, the refusal, and the kind and number of the value."""
     for kinds in itertools.product([NUMBER, STRING, WIDE], repeat=form.count("{}")):
         operands = [operand[kind] for operand, kind in zip(OPERANDS, kinds)]
-        refusal, (kind, number, *_) = library.evaluate(form.format(*operands).encode(), b"")
+        refusal, _, (kind, number, *_) = library.evaluate(form.format(*operands).encode(), b"")
         yield kinds, refusal, kind, number
 
 

@@ -22,10 +22,15 @@ def value(cell):
     return answer.decode().rstrip("\n") if isinstance(answer, bytes) else answer
 
 
+def answer(form, operands):
+    """The refusal's number and the answer of a form with these operands. Parentheses move the place of a refusal, so it is left out."""
+    refusal, _, numbers = library.evaluate(form.format(*operands).encode(), b"")
+    return refusal, numbers
+
+
 def same(one, other, operands):
     """Whether two forms have the same answers and counts, whatever numbers stand in them."""
-    every = itertools.product(NUMBERS, repeat=operands)
-    return all(library.evaluate(one.format(*each).encode(), b"") == library.evaluate(other.format(*each).encode(), b"") for each in every)
+    return all(answer(one, each) == answer(other, each) for each in itertools.product(NUMBERS, repeat=operands))
 
 
 def misgrouped():

@@ -6,7 +6,7 @@ import subprocess
 from sessions import ROOT
 
 COMMAND = os.path.join(ROOT, "target", "korzhinay")
-REFUSAL = re.compile(rb"(?:expression|field|-|-:\d+): refused \((\d+)\): ")
+REFUSAL = re.compile(rb"(?:<expression>|-):\d+:\d+: refused \((\d+)\): ")
 
 
 def ask(*words, given=b""):

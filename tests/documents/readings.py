@@ -16,6 +16,8 @@ from sessions import ROOT, read
 DECISIONS = "docs/DECISIONS.md"
 VECTORS = os.path.join(ROOT, "tests", "vectors")
 ENTRY = re.compile(r"^### ([RDC]\d+)\. (.*)$", re.M)
+# Where a refusal is, in an expression or in a line.
+PLACE = re.compile(r"(?: at|,) byte \d+")
 ROOM = 16
 # Some modules of the vectors have the names of modules of this folder, so they are read in a process of their own.
 GATHER = """
@@ -61,22 +63,29 @@ def file(cell):
 
 
 def value_answer(text):
-    refusal, (kind, value, count, _, start, length) = library.evaluate(text, b"")
+    refusal, offset, (kind, value, count, _, start, length) = library.evaluate(text, b"")
     if refusal:
-        return "refused (%d)" % refusal
+        return "refused (%d) at byte %d" % (refusal, offset)
     said = "string, %d bytes from byte %d" % (length, start) if kind else str(value)
     return said + (", count %d" % count if count else "")
 
 
 def tokens_answer(text):
-    refusal, found = library.tokens(text)
+    refusal, offset, found = library.tokens(text)
     said = "%d token%s" % (len(found), "" if len(found) == 1 else "s")
-    return "refused (%d), %s" % (refusal, said) if refusal else said
+    return "refused (%d) at byte %d, %s" % (refusal, offset, said) if refusal else said
 
 
 def file_answer(text):
-    refusal, (line, lines, _), marks = library.select(text, b"", ROOM)
-    return "refused (%d) at line %d" % (refusal, line) if refusal else "marks " + " ".join(map(str, marks[:lines]))
+    refusal, line, offset, lines, _, marks = library.select(text, b"", ROOM)
+    if refusal:
+        return "refused (%d) at line %d, byte %d" % (refusal, line, offset)
+    return "marks " + " ".join(map(str, marks[:lines]))
+
+
+def as_told(said, wanted):
+    """An answer, without the byte of its refusal if the table does not give one."""
+    return said if PLACE.search(wanted) else PLACE.sub("", said)
 
 
 # Of each heading: how its inputs are made, and their answers. The inputs under another heading are described in words.
@@ -126,5 +135,5 @@ def checks():
         heading, rows = table(reading, entry)
         for cell, wanted in rows if heading != IN_WORDS else []:
             make, answer = KINDS[heading]
-            yield "%s, %s" % (reading, cell), answer(make(cell)), wanted
+            yield "%s, %s" % (reading, cell), as_told(answer(make(cell)), wanted), wanted
             yield "%s, %s is a vector" % (reading, cell), is_vector(heading, make(cell)), True

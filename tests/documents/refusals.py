@@ -8,7 +8,7 @@ from manual import rows
 from meanings import meanings
 from sessions import ROOT
 
-HEADING = ("no.", "meaning", "smallest input", "more")
+HEADING = ("no.", "meaning", "where", "smallest input", "offset", "more")
 NUMBERS = range(1, 27)
 # The command lends enough and knows no other datum types, so it never meets these.
 LIBRARY_ONLY = {16, 23, 26}

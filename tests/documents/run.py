@@ -1,7 +1,7 @@
 """Runs every example of the manual and the README, and holds the manual's tables against the product: run.py [NAME]... A name is an
 example's place, as `README.md:9`, a document, a section's heading, or a part (limits, tokens, precedence, kinds, values, lines, records,
-fields, smallest, readings, refusals). What can be checked without the product is in tests/house. The last line says how many passed and
-how many failed."""
+fields, smallest, places, readings, refusals). What can be checked without the product is in tests/house. The last line says how many
+passed and how many failed."""
 import os
 import sys
 
@@ -11,6 +11,7 @@ import fields
 import kinds
 import limits
 import lines
+import places
 import precedence
 import readings
 import records
@@ -23,7 +24,7 @@ from sessions import examples, run
 from tally import check, choose, chosen, end
 
 README = "README.md"
-PARTS = [limits, tokens, precedence, kinds, values, lines, records, fields, smallest, readings]
+PARTS = [limits, tokens, precedence, kinds, values, lines, records, fields, smallest, places, readings]
 
 
 def check_examples(document):

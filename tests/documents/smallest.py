@@ -1,4 +1,4 @@
-"""The smallest inputs in the table of refusals: each is refused with the number of its row, and what is smaller is not."""
+"""The smallest inputs in the table of refusals: each is refused with the number and the offset of its row, and what is smaller is not."""
 import itertools
 import re
 
@@ -10,7 +10,8 @@ from refusals import HEADING
 NOTHING = "no byte at all"
 # The refusals of expressions and of files; all others have a way of their own.
 EXPRESSIONS, FILES = range(2, 13), {13, 14, 15, 17, 18, 19, 20, 21, 22}
-ROOM = 8
+# Bytes of a field, and marks for any file of the table.
+ROOM, ENOUGH = 8, 5000
 # How a cell tells an input: in words, as code, or by counting. The input is made with one byte, line, token or group fewer on demand.
 FORMS = {
     NOTHING: lambda fewer: "",
@@ -32,23 +33,57 @@ def made(cell, fewer=0):
     raise SystemExit("%s: the test cannot make the input '%s'" % (MANUAL, cell))
 
 
-def of_library(refusal, cell, fewer):
-    """The library's answer where the command cannot ask; a step smaller is no LF, the code before, and a buffer that is enough."""
-    if refusal == 16:
-        matched("one LF and no mark", cell)
-        return library.select(b"\n"[fewer:], b"", 0)[0]
-    if refusal == 23:
-        expression, code = matched(r"`(.*)` and the code (\d+)", cell)
-        return library.field(expression.encode(), b"", int(code) - fewer, ROOM)[0]
+def of_table(cell, fewer):
+    matched("a table of one byte", cell)
+    return library.evaluate(b"", b"x"[fewer:])
+
+
+def of_marks(cell, fewer):
+    """A step smaller is no LF."""
+    matched("one LF and no mark", cell)
+    refusal, _, offset, *_ = library.select(b"\n"[fewer:], b"", 0)
+    return refusal, offset
+
+
+def of_file(cell, fewer):
+    refusal, _, offset, *_ = library.select(made(cell, fewer).encode(), b"", ENOUGH)
+    return refusal, offset
+
+
+def of_code(cell, fewer):
+    """A step smaller is the code before."""
+    expression, code = matched(r"`(.*)` and the code (\d+)", cell)
+    return library.field(expression.encode(), b"", int(code) - fewer, ROOM)
+
+
+def datum(name):
+    return meaning({codes(row[1])[0]: int(row[0]) for row in rows("Data fields", "code", "type", "takes", "bytes")}, name)
+
+
+def of_datum(cell, fewer):
+    expression, name = matched(r"`(.*)` for `(.*)`", cell)
+    return library.field(expression[fewer:].encode(), b"", datum(name), ROOM)
+
+
+def of_buffer(cell, fewer):
+    """A step smaller is a buffer that is enough."""
     expression, name = matched(r"`(.*)` for `(.*)` and no byte", cell)
-    types = {codes(row[1])[0]: int(row[0]) for row in rows("Data fields", "code", "type", "takes", "bytes")}
-    return library.field(expression.encode(), b"", meaning(types, name), fewer)[0]
+    return library.field(expression.encode(), b"", datum(name), fewer)
 
 
-def answer(refusal, cell, fewer=0):
-    """What is answered to a cell's input, or to one that is a step smaller."""
+CALLS = {1: of_table, 16: of_marks, 23: of_code, 24: of_datum, 25: of_datum, 26: of_buffer, **dict.fromkeys(FILES, of_file)}
+
+
+def by_library(refusal, cell, fewer=0):
+    """The number and the offset that the library answers to a cell's input, or to one that is a step smaller."""
+    if refusal in EXPRESSIONS:
+        return library.evaluate(made(cell, fewer).encode(), b"")[:2]
+    return CALLS[refusal](cell, fewer)[:2]
+
+
+def by_command(refusal, cell, fewer=0):
+    """The number that the command answers; where it cannot ask, the library's."""
     if refusal == 1:
-        matched("a table of one byte", cell)
         return ask("table", "-", given=b"x"[fewer:])
     if refusal in EXPRESSIONS:
         return ask("eval", "--", made(cell, fewer))
@@ -57,7 +92,7 @@ def answer(refusal, cell, fewer=0):
     if refusal in (24, 25):
         expression, name = matched(r"`(.*)` for `(.*)`", cell)
         return ask("field", "--datum", name, "--", expression[fewer:])
-    return of_library(refusal, cell, fewer)
+    return by_library(refusal, cell, fewer)[0]
 
 
 def shortest(refusal_of, alphabet, most):
@@ -73,10 +108,12 @@ def checks():
     # Bytes of which the short inputs of the table are made, and others that might do as well.
     expressions = shortest(lambda text: library.evaluate(text, b"")[0], b"@!\"-/01|a.()$A ", 3)
     files = shortest(lambda text: library.select(text, b"", 1)[0], b"! ifels02", 5)
-    for refusal, cell in [(int(row[0]), row[2]) for row in rows("Refusals", *HEADING)]:
-        yield "%d by %s" % (refusal, cell), answer(refusal, cell), refusal
+    for refusal, cell, offset in [(int(row[0]), row[3], int(row[4])) for row in rows("Refusals", *HEADING)]:
+        yield "%d by %s" % (refusal, cell), by_command(refusal, cell), refusal
+        yield "%d by %s, with its offset" % (refusal, cell), by_library(refusal, cell), (refusal, offset)
         if cell != NOTHING:
-            yield "%d by less than %s" % (refusal, cell), answer(refusal, cell, 1) == refusal, False
+            smaller = by_command(refusal, cell, 1), by_library(refusal, cell, 1)[0]
+            yield "%d by less than %s" % (refusal, cell), [each == refusal for each in smaller], [False, False]
         if refusal in EXPRESSIONS or refusal in FILES:
             length, found = len(made(cell)), expressions if refusal in EXPRESSIONS else files
             yield "%d by fewer bytes than %s" % (refusal, cell), found.get(refusal, length), length

@@ -56,7 +56,7 @@ MEANT = {
 
 
 def answer(expression):
-    refusal, (_, number, *_) = library.evaluate(expression.encode(), b"")
+    refusal, _, (_, number, *_) = library.evaluate(expression.encode(), b"")
     return "refused (%d)" % refusal if refusal else number
 
 

@@ -27,7 +27,7 @@ struct call {
 
 /* Everything that any call writes; what a call does not write stays as it was before. */
 struct answer {
-    uint64_t returned, refusal, out[6], values[200];
+    uint64_t returned, refusal, out[7], values[200];
     uint16_t starts[200], lens[200];
     uint8_t codes[200], buffer[2044], marks[4096];
 };

@@ -4,7 +4,7 @@ directives) and the decisions in docs/DECISIONS.md. Each text is tried where it 
 import bars
 from settings import LONGEST_MACRO, LONGEST_PCD, TABLE
 
-# After !if, !elseif and !elif: the mark and the count of operators, or a refusal number.
+# After !if, !elseif and !elif: the mark and the count of operators, or the number of a refusal without a place.
 CONDITIONS = [
     (b" 1", (4, 0)),
     (b" 0", (3, 0)),
@@ -72,50 +72,8 @@ CONDITIONS = [
     (b"5 - 7", 22),
     (b"1 / 0", 22),
     (b"2", 22),
-    # 3
-    (b" @", 3),
-    (b" foo", 3),
-    (b" A", 3),
-    (b" 007", 3),
-    (b" 0x", 3),
-    (b" 'a", 3),
-    (b" $(a)", 3),
-    (b" 1\r ", 3),
-    (b" \0", 3),
-    (b" \xe9", 3),
-    (b" !if 1", 3),
-    (b" 1 = 1", 3),
-    # 4, 5, 6
-    (b" 18446744073709551616", 4),
-    (b" 1 OR 99999999999999999999", 4),
-    (b" " + b"-" * 200 + b"0", 5),
-    (b" " + b"(" * 17 + b"1" + b")" * 17, 6),
+    # 16 parentheses
     (b" " + b"(" * 16 + b"1" + b")" * 16, (4, 0)),
-    # 7, without any token too
-    (b" ", 7),  # R23
-    (b"\t", 7),
-    (b" \t ", 7),
-    (b" #", 7),
-    (b" # c", 7),  # R23
-    (b" 1 2", 7),
-    (b" ()", 7),
-    (b" 1 +", 7),
-    (b" 1 ? 1", 7),
-    # 9, 10
-    (b" g.None", 9),
-    (b" 0 AND g.None", 9),
-    (b" A.A", 9),
-    (b" " + LONGEST_PCD + b"x", 9),
-    (b" 1 == 'a'", 10),
-    (b" 0 AND 'a'", 10),
-    (b" $(NOPE) == ''", 10),
-    (b" $(S) == L'two'", 10),
-    # 11, 12
-    (b" 5 - 7", 11),
-    (b" -1", 11),
-    (b" 1 << 64", 11),
-    (b" 1 / 0", 12),
-    (b" 1 % $(Z)", 12),
     # 13: neither the number 0 nor the number 1
     (b" 2", 13),
     (b" 0x100", 13),
@@ -139,15 +97,62 @@ CONDITIONS = [
     (b" a.Str", 13),
     (b" g.Wide", 13),
     (b" 1 ? 'a' : 'b'", 13),
-    # the expression's own before 13
-    (b" 2 @", 3),
-    (b" 2 + 18446744073709551616", 4),
-    (b" 2 2", 7),
-    (b" 2 + g.None", 9),
-    (b" 2 + 'a'", 10),
-    (b" 2 - 3", 11),
-    (b" 2 / 0", 12),
-    (b" 'a' 'b'", 7),
+]
+
+# After the same words, the expression's own refusals: a text in two parts, and the number; the refusal is where the second part starts.
+REFUSED = [
+    # 3
+    (b" ", b"@", 3),
+    (b" ", b"foo", 3),
+    (b" ", b"A", 3),
+    (b" ", b"007", 3),
+    (b" ", b"0x", 3),
+    (b" ", b"'a", 3),
+    (b" ", b"$(a)", 3),
+    (b" 1", b"\r ", 3),
+    (b" ", b"\0", 3),
+    (b" ", b"\xe9", 3),
+    (b" !", b"if 1", 3),
+    (b" 1 ", b"= 1", 3),
+    # 4, 5, 6
+    (b" ", b"18446744073709551616", 4),
+    (b" 1 OR ", b"99999999999999999999", 4),
+    (b" " + b"-" * 200, b"0", 5),
+    (b" " + b"(" * 16, b"(1" + b")" * 17, 6),
+    # 7, without any token too
+    (b" ", b"", 7),  # R23
+    (b"\t", b"", 7),
+    (b" \t ", b"", 7),
+    (b" ", b"#", 7),
+    (b" ", b"# c", 7),  # R23
+    (b" 1 ", b"2", 7),
+    (b" (", b")", 7),
+    (b" 1 +", b"", 7),
+    (b" 1 ? 1", b"", 7),
+    # 9, 10
+    (b" ", b"g.None", 9),
+    (b" 0 AND ", b"g.None", 9),
+    (b" ", b"A.A", 9),
+    (b" ", LONGEST_PCD + b"x", 9),
+    (b" 1 ", b"== 'a'", 10),
+    (b" 0 ", b"AND 'a'", 10),
+    (b" $(NOPE) ", b"== ''", 10),
+    (b" $(S) ", b"== L'two'", 10),
+    # 11, 12
+    (b" 5 ", b"- 7", 11),
+    (b" ", b"-1", 11),
+    (b" 1 ", b"<< 64", 11),
+    (b" 1 ", b"/ 0", 12),
+    (b" 1 ", b"% $(Z)", 12),
+    # all of them before 13
+    (b" 2 ", b"@", 3),
+    (b" 2 + ", b"18446744073709551616", 4),
+    (b" 2 ", b"2", 7),
+    (b" 2 + ", b"g.None", 9),
+    (b" 2 ", b"+ 'a'", 10),
+    (b" 2 ", b"- 3", 11),
+    (b" 2 ", b"/ 0", 12),
+    (b" 'a' ", b"'b'", 7),
 ]
 
 # After !ifdef and !ifndef: whether the name is set, or a refusal number.
@@ -280,26 +285,41 @@ NOTHING = [
 
 
 def within(wanted, front, back):
-    """An answer with marks around it, or a refusal in the line after the marks in front."""
+    """An answer with marks around it, or a refusal without a place in the line after the marks in front."""
     if isinstance(wanted, int):
         return wanted, len(front) + 1
     mark, count = wanted
     return "%s%d%s" % (front, mark, back), count
 
 
-FILES = []
-for text, wanted in CONDITIONS + bars.CONDITIONS:
-    FILES += [
-        (b"!if" + text + b"\n!endif", within(wanted, "", "5")),
-        (b"x\n\t!if" + text + b"\n!endif\n", within(wanted, "1", "5")),
-        (b"!if 0\n!elseif" + text + b"\n!endif\n", within(wanted, "3", "5")),
-        (b"!if 0\n!elseif 0\n!elif" + text + b"\n!endif\n", within(wanted, "33", "5")),
-        (b"!if 1\n!if" + text + b"\n!endif\n!endif\n", within(wanted, "4", "55")),
-        # not read
+# Where an expression is read: the lines before, with their marks, its own line up to the word's end, and the lines after, with their marks.
+READ = [
+    (b"", "", b"!if", b"\n!endif", "5"),
+    (b"x\n", "1", b"\t!if", b"\n!endif\n", "5"),
+    (b"!if 0\n", "3", b"!elseif", b"\n!endif\n", "5"),
+    (b"!if 0\n!elseif 0\n", "33", b"!elif", b"\n!endif\n", "5"),
+    (b"!if 1\n", "4", b"!if", b"\n!endif\n!endif\n", "55"),
+]
+
+
+def unread(text):
+    """Files in which the text is not read."""
+    return [
         (b"!if 1\n!elseif" + text + b"\n!endif\n", ("425", 0)),
         (b"!if 0\n!elif 1\n!elif" + text + b"\n!endif\n", ("3425", 0)),
         (b"!if 0\n!if" + text + b"\n!elif" + text + b"\n!endif\n!endif\n", ("32225", 0)),
     ]
+
+
+FILES = []
+for text, wanted in CONDITIONS + bars.CONDITIONS:
+    FILES += [(before + word + text + after, within(wanted, front, back)) for before, front, word, after, back in READ]
+    FILES += unread(text)
+for first, second, number in REFUSED + bars.REFUSED_CONDITIONS:
+    FILES += [
+        (before + word + first + second + after, (number, len(front) + 1, len(word + first))) for before, front, word, after, _ in READ
+    ]
+    FILES += unread(first + second)
 for text, is_set in NAMES:
     yes, no = (is_set, is_set) if is_set == 22 else ((4, 0), (3, 0)) if is_set else ((3, 0), (4, 0))
     FILES += [

@@ -3,87 +3,113 @@ as an expression by itself and in a data field, where they do. Worked out by han
 """
 from settings import TABLE, numbers
 
-# A text, its mark and count of operators after a directive's word or its refusal there, and its refusal by itself; none if its value is the
-# same number.
-TEXTS = [
-    (b"1 | 1", (4, 1), 8),
-    (b"1 | 0", (4, 1), 8),
-    (b"0 | 0", (3, 1), 8),
-    (b"1 || 0", (4, 1), 8),
-    (b"0 || 0", (3, 1), 8),
-    (b"0||1", (4, 1), 8),
-    (b"0|1", (4, 1), 8),
-    (b"0 || 2", (4, 1), 8),
-    (b"$(A) == 2 || $(Z) == 1", (4, 2), 8),
-    (b"$(A) == 3 || $(Z) == 0", (4, 3), 8),
-    (b"$(A) == 3 || $(Z) == 1", (3, 3), 8),
-    (b"($(A) == 3) || ($(Z) == 0)", (4, 3), 8),
-    (b"(1 | 0) | 1", (4, 2), 8),
-    (b"1 | (0 | 1)", (4, 2), 8),
-    (b"g.Num == 7 || 'a' == 'b' # c", (4, 2), 8),
-    # the bar that a comment or a string holds is none
-    (b"1 # | 1", (4, 0), None),
-    (b"'|' == \"||\"", (3, 1), None),
-    # all bars in parentheses: the same in both places
-    (b"(1 | 0)", (4, 1), None),
-    (b"(0 || 2)", (4, 1), None),
-    (b"((1) | (0))", (4, 1), None),
+# Bars outside parentheses: a text in two parts, of which the second starts with the leftmost such bar (8 by itself), and its mark and count
+# of operators after a directive's word.
+OUTSIDE = [
+    (b"1 ", b"| 1", 4, 1),
+    (b"1 ", b"| 0", 4, 1),
+    (b"0 ", b"| 0", 3, 1),
+    (b"1 ", b"|| 0", 4, 1),
+    (b"0 ", b"|| 0", 3, 1),
+    (b"0", b"||1", 4, 1),
+    (b"0", b"|1", 4, 1),
+    (b"0 ", b"|| 2", 4, 1),
+    (b"$(A) == 2 ", b"|| $(Z) == 1", 4, 2),
+    (b"$(A) == 3 ", b"|| $(Z) == 0", 4, 3),
+    (b"$(A) == 3 ", b"|| $(Z) == 1", 3, 3),
+    (b"($(A) == 3) ", b"|| ($(Z) == 0)", 4, 3),
+    (b"(1 | 0) ", b"| 1", 4, 2),
+    (b"1 ", b"| (0 | 1)", 4, 2),
+    (b"g.Num == 7 ", b"|| 'a' == 'b' # c", 4, 2),
     # levels: | under ==, over AND; || under AND, over ?:
-    (b"1 | 2 == 2", (4, 2), 8),
-    (b"1 | 1 AND 0", (3, 2), 8),
-    (b"1 || 0 AND 0", (4, 1), 8),
-    (b"1 || 0 ? 0 : 1", (3, 2), 8),
-    (b"1 ? 0 || 1 : 2", (4, 2), 8),
-    (b"1 ^ 1 | 1", (4, 2), 8),
-    (b"1 | 1 ^ 1", (4, 2), 8),
-    (b"1 OR 0 || 1", (4, 2), 8),
-    (b"1 || 1 XOR 1", (4, 1), 8),
-    (b"1 ? 1 : 0 || 0", (4, 1), 8),
+    (b"1 ", b"| 2 == 2", 4, 2),
+    (b"1 ", b"| 1 AND 0", 3, 2),
+    (b"1 ", b"|| 0 AND 0", 4, 1),
+    (b"1 ", b"|| 0 ? 0 : 1", 3, 2),
+    (b"1 ? 0 ", b"|| 1 : 2", 4, 2),
+    (b"1 ^ 1 ", b"| 1", 4, 2),
+    (b"1 ", b"| 1 ^ 1", 4, 2),
+    (b"1 OR 0 ", b"|| 1", 4, 2),
+    (b"1 ", b"|| 1 XOR 1", 4, 1),
+    (b"1 ? 1 : 0 ", b"|| 0", 4, 1),
     # at the limits: 16 parentheses, 200 tokens
-    (b"1 | " + b"(" * 16 + b"0" + b")" * 16, (4, 1), 8),
-    (b"!1" + b" | 1" * 99, (4, 100), 8),
+    (b"1 ", b"| " + b"(" * 16 + b"0" + b")" * 16, 4, 1),
+    (b"!1 ", b"| 1" + b" | 1" * 98, 4, 100),
     # skipped operands, with bars inside them and without
-    (b"1 || 1 / 0", (4, 1), 8),
-    (b"1 || 5 - 7 | 1", (4, 1), 8),
-    (b"0 AND 1 | 2", (3, 1), 8),
-    (b"0 AND 1 / 0 || 1", (4, 2), 8),
-    (b"1 ? 1 : 2 | 1 / 0", (4, 1), 8),
-    (b"0 ? 2 | 1 : 0", (3, 1), 8),
-    # 3 to 7 come before 8 in both places
-    (b"1 | @", 3, 3),
-    (b"1 || 18446744073709551616", 4, 4),
-    (b"1" + b" | 1" * 100, 5, 5),
-    (b"1 | " + b"(" * 17 + b"1" + b")" * 17, 6, 6),
-    (b"1 |", 7, 7),
-    (b"| 1", 7, 7),
-    (b"||", 7, 7),
-    (b"1 | | 1", 7, 7),
-    (b"1 ||| 1", 7, 7),
-    (b"1 || || 1", 7, 7),
-    # 9 to 13 in a directive, where 8 hides them elsewhere
-    (b"1 || g.None", 9, 8),
-    (b"g.None | 1", 9, 8),
-    (b"g.None | 'a'", 9, 8),
-    (b"1 | 'a'", 10, 8),
-    (b"1 || 'a'", 10, 8),
-    (b"L'a' || 1", 10, 8),
-    (b"$(S) || 1", 10, 8),
-    (b"$(NOPE) == 'a' || 1", 10, 8),
-    (b"'a' | 1 / 0", 10, 8),
-    (b"5 - 7 || 1", 11, 8),
-    (b"0 || 1 << 64", 11, 8),
-    (b"0 || 1 / 0", 12, 8),
-    (b"1 | 1 / 0", 12, 8),
-    (b"2 | 1", 13, 8),
-    (b"2 | 4", 13, 8),
-    (b"0 || 1 ? 'a' : 'b'", 13, 8),
-    (b"$(M) | 1", 13, 8),
+    (b"1 ", b"|| 1 / 0", 4, 1),
+    (b"1 ", b"|| 5 - 7 | 1", 4, 1),
+    (b"0 AND 1 ", b"| 2", 3, 1),
+    (b"0 AND 1 / 0 ", b"|| 1", 4, 2),
+    (b"1 ? 1 : 2 ", b"| 1 / 0", 4, 1),
+    (b"0 ? 2 ", b"| 1 : 0", 3, 1),
 ]
 
-CONDITIONS = [(b" " + text, wanted) for text, wanted, _ in TEXTS]
-BY_THEMSELVES = [(text, refusal) for text, _, refusal in TEXTS if refusal]
+# The same number in both places: a text with its mark and count.
+INSIDE = [
+    # the bar that a comment or a string holds is none
+    (b"1 # | 1", 4, 0),
+    (b"'|' == \"||\"", 3, 1),
+    # all bars in parentheses
+    (b"(1 | 0)", 4, 1),
+    (b"(0 || 2)", 4, 1),
+    (b"((1) | (0))", 4, 1),
+]
+
+# The same refusal in both places, since 3 to 7 come before 8: a text in two parts, and the number; it is where the second part starts.
+BEFORE = [
+    (b"1 | ", b"@", 3),
+    (b"1 || ", b"18446744073709551616", 4),
+    (b"1" + b" | 1" * 99 + b" | ", b"1", 5),
+    (b"1 | " + b"(" * 16, b"(1" + b")" * 17, 6),
+    (b"1 |", b"", 7),
+    (b"", b"| 1", 7),
+    (b"", b"||", 7),
+    (b"1 | ", b"| 1", 7),
+    (b"1 ||", b"| 1", 7),
+    (b"1 || ", b"|| 1", 7),
+]
+
+# 9 to 12 in a directive, where 8 hides them elsewhere: a text in two parts, the number and the offset of the bar. The refusal in a
+# directive is where the second part starts.
+HIDDEN = [
+    (b"1 || ", b"g.None", 9, 2),
+    (b"", b"g.None | 1", 9, 7),
+    (b"", b"g.None | 'a'", 9, 7),
+    (b"1 ", b"| 'a'", 10, 2),
+    (b"1 ", b"|| 'a'", 10, 2),
+    (b"L'a' ", b"|| 1", 10, 5),
+    (b"$(S) ", b"|| 1", 10, 5),
+    (b"$(NOPE) ", b"== 'a' || 1", 10, 15),
+    (b"'a' ", b"| 1 / 0", 10, 4),
+    (b"5 ", b"- 7 || 1", 11, 6),
+    (b"0 || 1 ", b"<< 64", 11, 2),
+    (b"0 || 1 ", b"/ 0", 12, 2),
+    (b"1 | 1 ", b"/ 0", 12, 2),
+]
+
+# 13 in a directive, without a place, and 8 elsewhere, where the second part starts.
+NO_CONDITIONS = [
+    (b"2 ", b"| 1"),
+    (b"2 ", b"| 4"),
+    (b"0 ", b"|| 1 ? 'a' : 'b'"),
+    (b"$(M) ", b"| 1"),
+]
+
+# After a word: a text, and its mark and count, or the number without a place; and what is refused at the second part of a text.
+CONDITIONS = (
+    [(b" " + front + back, (mark, count)) for front, back, mark, count in OUTSIDE]
+    + [(b" " + text, (mark, count)) for text, mark, count in INSIDE]
+    + [(b" " + front + back, 13) for front, back in NO_CONDITIONS]
+)
+REFUSED_CONDITIONS = [(b" " + front, back, number) for front, back, number, *_ in BEFORE + HIDDEN]
+# By themselves: an expression with its number and offset.
+BY_THEMSELVES = (
+    [(front + back, 8, len(front)) for front, back, *_ in OUTSIDE + NO_CONDITIONS]
+    + [(front + back, number, len(front)) for front, back, number in BEFORE]
+    + [(front + back, 8, bar) for front, back, _, bar in HIDDEN]
+)
 # mark 3 shows 0, mark 4 shows 1
-NUMBERS = [(text, wanted[0] - 3, wanted[1]) for text, wanted, refusal in TEXTS if not refusal]
+NUMBERS = [(text, mark - 3, count) for text, mark, count in INSIDE]
 
 # R36. Whole files with their tables: the customer's case with each setting, and bars where nothing is read or no bar may be.
 BOARDS = b"!if $(A) == 1 || $(B) == 1\nx\n!elseif $(A) | $(B)\ny\n!else\nz\n!endif\n"

@@ -1,8 +1,9 @@
 """Data fields, worked out by hand from document 01 (Field bytes and Refusal numbers).
 
-VECTORS gathers them: an expression, a table, a datum code, the buffer's length, and the field's bytes or a refusal number.
+VECTORS gathers them: an expression, a table, a datum code, the buffer's length, and the field's bytes or a refusal's number and offset.
 """
 import bars
+import offsets
 from settings import TABLE
 
 VOID, BOOLEAN, UINT8, UINT16, UINT32, UINT64 = range(6)
@@ -64,7 +65,7 @@ FIELDS = [
     (b"L'" + b"x" * 1021 + b"'", VOID, b"x\0" * 1021 + b"\0\0"),
 ]
 
-# Refusals: an expression, a table, a datum code, the buffer's length and the number.
+# Refusals without a place: an expression, a table, a datum code, the buffer's length and the number.
 REFUSED = [
     # 25: one more than the largest, and far more
     (b"2", TABLE, BOOLEAN, 8, 25),
@@ -78,9 +79,6 @@ REFUSED = [
     (b"4294967296", TABLE, UINT16, 8, 25),
     (b"4294967296", TABLE, UINT32, 8, 25),
     (b"1 << 63", TABLE, UINT32, 8, 25),
-    # above 2^64 - 1 there is no number: the expression's own
-    (b"18446744073709551616", TABLE, UINT64, 8, 4),
-    (b"18446744073709551615 + 1", TABLE, UINT64, 8, 11),
     # 24
     (b"0", TABLE, VOID, 8, 24),
     (b"$(NOPE)", TABLE, VOID, 8, 24),
@@ -88,22 +86,11 @@ REFUSED = [
     *[(text, TABLE, datum, 8, 24) for text in (b"''", b"'1'", b"L'1'", b"$(S)", b"g.Wide") for datum in range(1, 6)],  # R20
     # 23, whatever the kind
     *[(text, TABLE, datum, 8, 23) for text in (b"0", b"'a'", b"L''") for datum in (6, 7, 8, 16, 127, 128, 254, 255)],
-    # the expression's own before 23 and all that follow
+    # 1 and 2 before 23 and all that follow
     (b"1", MALFORMED, 6, 0, 1),
     (b"1", MALFORMED, UINT8, 8, 1),
+    (b"1 + @", MALFORMED, UINT8, 8, 1),
     (b" " * 1025, TABLE, 6, 0, 2),
-    (b"@", TABLE, 255, 0, 3),
-    (b"18446744073709551616", TABLE, 6, 0, 4),
-    (b"-" * 201, TABLE, 6, 0, 5),
-    (b"(" * 17, TABLE, 6, 0, 6),
-    (b"", TABLE, 6, 0, 7),
-    (b"1 | 2", TABLE, 6, 0, 8),
-    (b"g.None", TABLE, 6, 0, 9),
-    (b"1 == 'a'", TABLE, 6, 0, 10),
-    (b"5 - 7", TABLE, 6, 0, 11),
-    (b"1 / 0", TABLE, 255, 0, 12),
-    (b"1 / 0", TABLE, VOID, 0, 12),
-    (b"1 / 0", TABLE, UINT8, 0, 12),
     # 23 before 24, 25 and 26
     (b"'a'", TABLE, 6, 0, 23),
     (b"18446744073709551615", TABLE, 6, 0, 23),
@@ -123,9 +110,33 @@ REFUSED = [
     (b"0", TABLE, UINT64, 1, 26),
 ]
 
-VECTORS = list(REFUSED)
-# the expression's own, whatever the datum and the room
-VECTORS += [(text, TABLE, code, room, refusal) for text, refusal in bars.BY_THEMSELVES for code, room in ((UINT8, 8), (6, 0))]
+# The expression's own, whatever the datum and the room: an expression in two parts, a datum code, the buffer's length and the number; the
+# refusal is where the second part starts.
+OWN = [
+    # above 2^64 - 1 there is no number
+    (b"", b"18446744073709551616", UINT64, 8, 4),
+    (b"18446744073709551615 ", b"+ 1", UINT64, 8, 11),
+    # 3 to 12 before 23 and all that follow
+    (b"", b"@", 255, 0, 3),
+    (b"1 + ", b"@", 255, 0, 3),
+    (b"1 + ", b"18446744073709551616", 6, 0, 4),
+    (b"-" * 200, b"-", 6, 0, 5),
+    (b"(" * 16, b"(", 6, 0, 6),
+    (b"", b"", 6, 0, 7),
+    (b"1 + ", b"", 6, 0, 7),
+    (b"1 ", b"| 2", 6, 0, 8),
+    (b"1 + ", b"g.None", 6, 0, 9),
+    (b"1 ", b"== 'a'", 6, 0, 10),
+    (b"5 ", b"- 7", 6, 0, 11),
+    (b"1 ", b"/ 0", 255, 0, 12),
+    (b"1 ", b"/ 0", VOID, 0, 12),
+    (b"1 ", b"/ 0", UINT8, 0, 12),
+    (b"'a' ", b"+ 'b'", VOID, 8, 10),
+]
+
+VECTORS = [(*given, (number, 0)) for *given, number in REFUSED] + offsets.FIELDS
+VECTORS += [(front + back, TABLE, code, room, (number, len(front))) for front, back, code, room, number in OWN]
+VECTORS += [(text, TABLE, code, room, tuple(refusal)) for text, *refusal in bars.BY_THEMSELVES for code, room in ((UINT8, 8), (6, 0))]
 for text, code, wanted in FIELDS:
     VECTORS += [(text, TABLE, code, len(wanted) + more, wanted) for more in (0, 1, 2, 9)]
-    VECTORS += [(text, TABLE, code, room, 26) for room in sorted({0, len(wanted) // 2, len(wanted) - 1})]
+    VECTORS += [(text, TABLE, code, room, (26, 0)) for room in sorted({0, len(wanted) // 2, len(wanted) - 1})]

@@ -1,8 +1,8 @@
 """Selection, line after line: groups, which branch is taken, which directives are read, and 19 to 21. Worked out by hand from
 document 01 (Lines and directives) and the decisions in docs/DECISIONS.md.
 
-A vector is a file, with `|` for the LF between its lines, and its answer: the marks as digits and the count of operators, or a
-refusal number and its line. No name is set in the table unless a vector says so.
+A vector is a file, with `|` for the LF between its lines, and its answer: the marks as digits and the count of operators, or the refusal's
+number, line and offset; the offset is left out where the refusal has no place. No name is set in the table unless a vector says so.
 """
 from settings import numbers
 
@@ -14,8 +14,8 @@ MENDED = b"a|!if $(WEEK) GE 48 OR $(WEEK) LE 5|watchdog|!endif|b"
 WITH_TABLE = [
     # document 01's whole case
     (WHOLE, numbers(FOO=2), ("41203051", 1)),
-    (WHOLE, numbers(FOO=3), (12, 3)),
-    (WHOLE, b"", (12, 3)),
+    (WHOLE, numbers(FOO=3), (12, 3, 10)),
+    (WHOLE, b"", (12, 3, 10)),
     (WHOLE.replace(b"1 / 0", b"0"), numbers(FOO=3), ("30304151", 1)),
     (WHOLE.replace(b"1 / 0", b"2 / 2"), numbers(FOO=3), ("30413051", 2)),
     # document 00's window over the new year, never true, and the one that was meant
@@ -230,7 +230,7 @@ OPEN = [
     # every other number comes first
     (b"!if 1|!foo", (18, 2)),
     (b"!if 1|!else x", (22, 2)),
-    (b"!if 1|!if @", (3, 2)),
+    (b"!if 1|!if @", (3, 2, 4)),
     (b"!if 0|!else|!else", (19, 3)),
 ]
 

@@ -1,7 +1,8 @@
 """Selection: files at their limits and one past them, and which of two refusals is given. Worked out by hand from document 01
 (Refusal numbers) and the decisions in docs/DECISIONS.md.
 
-A vector is a file, a table and the answer: the marks as digits and the count of operators, or a refusal number and its line.
+A vector is a file, a table and the answer: the marks as digits and the count of operators, or the refusal's number, line and offset; the
+offset is left out where the refusal has no place.
 """
 from settings import TABLE
 
@@ -121,7 +122,7 @@ LINES = [
     (b"!endif\n" + b"x" * 1025, (19, 1)),
     (SIXTEEN + b"!if 1\n" + b"x" * 1025, (20, 17)),
     (b"!if\n" + b"x" * 1025, (22, 1)),
-    (b"!if @\n" + b"x" * 1025, (3, 1)),
+    (b"!if @\n" + b"x" * 1025, (3, 1, 4)),
     (b"!if 2\n" + b"x" * 1025, (13, 1)),
     (b"x" * 1025 + b"\n!foo", (17, 1)),
 ]
@@ -163,7 +164,7 @@ ORDER = [
     (SIXTEEN + b"!elif @\n!if 2", (20, 18)),
     # line after line: an earlier line's higher number before a later line's lower one
     (b"!if 2\n!foo", (13, 1)),
-    (b"!if 1 / 0\n!foo", (12, 1)),
+    (b"!if 1 / 0\n!foo", (12, 1, 6)),
     (b"!if\n!foo", (22, 1)),
     (b"!endif\n!foo", (19, 1)),
     (b"!if 1\n!else x\n!endif\n!endif\n", (22, 2)),

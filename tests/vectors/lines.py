@@ -1,7 +1,8 @@
 """Selection, one line at a time: how a file is cut into lines, which lines are plain, and directive words. Worked out by hand from
 document 01 (Lines and directives) and the decisions in docs/DECISIONS.md.
 
-A vector is a file and its answer: the marks as digits and the count of operators, or a refusal number and its line.
+A vector is a file and its answer: the marks as digits and the count of operators, or the refusal's number, line and offset; the offset is
+left out where the refusal has no place.
 """
 
 # Nothing here depends on a table; each is tried with an empty one and with that of settings.py.
@@ -31,21 +32,21 @@ VECTORS = [
     (b"!if 1\r\nx\r\n!else\r\ny\r\n!endif\r\nz\r\n", ("413051", 0)),
     (b"!if 1\r\nx\n!else\ny\r\n!endif\nz", ("413051", 0)),
     (b"!if 0\r\n!elseif 1\r\n!endif\r\n", ("345", 0)),  # R32
-    (b"!if 1\r", (3, 1)),  # R26
+    (b"!if 1\r", (3, 1, 5)),  # R26
     (b"!if 1\r\n!endif\r", (22, 2)),
     (b"!if 1\n!endif\r", (22, 2)),  # R26
     (b"!if 1\n!else\r", (22, 2)),
-    (b"!if 1\r\r\n!endif\r\n", (3, 1)),  # R26
+    (b"!if 1\r\r\n!endif\r\n", (3, 1, 5)),  # R26
     (b"!if 1\n!else\r\r\n!endif\n", (22, 2)),
     (b"!if 1\n!endif\r\r\n", (22, 2)),
     (b"!if 1\n!endif \r\n", ("45", 0)),
     (b"!if 1\n!endif\r \n", (22, 2)),
-    (b"!if 1\r!endif\n", (3, 1)),
+    (b"!if 1\r!endif\n", (3, 1, 5)),
     (b"!if 1 # c\r\r\n!endif # c\r\r\n", ("45", 0)),
     (b"!if 1 # c\r\n!endif # c\r", ("45", 0)),
     (b"!if\r\n", (22, 1)),
-    (b"!if \r\n", (7, 1)),
-    (b"!if 'a\r\n", (3, 1)),
+    (b"!if \r\n", (7, 1, 4)),
+    (b"!if 'a\r\n", (3, 1, 4)),
     (b"!if 1 #\r!if 1\n!endif", ("45", 0)),
     (b"!ifndef A1\r\n!endif\r\n", ("45", 0)),
     (b"!ifndef A1\r\r\n!endif\r\n", (22, 1)),

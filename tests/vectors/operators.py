@@ -36,6 +36,12 @@ def joined(left, operator, right):
     return b"(%s %s %s)" % (left, operator, right)
 
 
+def wrong(left, operator, right):
+    """A refusal of kinds, which is at the operator."""
+    return joined(left, operator, right), 10, len(b"(%s " % left)
+
+
+# Numbers are an expression, its value and count; what is refused is an expression, the number and the offset.
 NUMBERS, REFUSED = [], []
 
 for spelling, (smaller, equal, larger) in COMPARISONS.items():
@@ -46,7 +52,7 @@ for spelling, (smaller, equal, larger) in COMPARISONS.items():
             (joined(high, spelling, high), equal, 1),
             (joined(high, spelling, low), larger, 1),
         ]
-    REFUSED += [(joined(PAIRS[i][0], spelling, PAIRS[j][0]), 10) for i in range(3) for j in range(3) if i != j]
+    REFUSED += [wrong(PAIRS[i][0], spelling, PAIRS[j][0]) for i in range(3) for j in range(3) if i != j]
 
 for spelling, value in ARITHMETIC.items():
     NUMBERS.append((joined(b"12", spelling, b"5"), value, 1))
@@ -54,15 +60,15 @@ for spelling, values in LOGICAL.items():
     for (left, right), value in zip([(b"0", b"0"), (b"0", b"6"), (b"6", b"0"), (b"6", b"9")], values):
         NUMBERS.append((joined(left, spelling, right), value, 1))
 for spelling in list(ARITHMETIC) + list(LOGICAL):
-    REFUSED += [(joined(PAIRS[i][0], spelling, PAIRS[j][0]), 10) for i in range(3) for j in range(3) if i or j]
+    REFUSED += [wrong(PAIRS[i][0], spelling, PAIRS[j][0]) for i in range(3) for j in range(3) if i or j]
 
 for spelling, values in UNARY.items():
     for operand, value in zip((b"0", b"5"), values):
         if value is None:
-            REFUSED.append((spelling + b" " + operand, 11))
+            REFUSED.append((spelling + b" " + operand, 11, 0))
         else:
             NUMBERS.append((spelling + b" " + operand, value, 1))
-    REFUSED += [(spelling + b" " + PAIRS[kind][0], 10) for kind in (1, 2)]
+    REFUSED += [(spelling + b" " + PAIRS[kind][0], 10, 0) for kind in (1, 2)]
 
 # `?:`: the test a number, the arms of one kind.
 for test in range(3):
@@ -70,4 +76,4 @@ for test in range(3):
         for no in range(3):
             if test or yes != no:
                 for operand in PAIRS[test]:
-                    REFUSED.append((b"%s ? %s : %s" % (operand, PAIRS[yes][0], PAIRS[no][0]), 10))
+                    REFUSED.append((b"%s ? %s : %s" % (operand, PAIRS[yes][0], PAIRS[no][0]), 10, len(operand) + 1))

@@ -1,6 +1,6 @@
 """Runs the vectors against the shared library: run.py [NAME]... A vector's name is its part and its number, as `value:7`, or its part
-and its input, as `value:1 << 64`; a part alone (tokens, places, table, lookup, unread, malformed, value, field, selection) is all of it. The
-last line says how many passed and how many failed."""
+and its input, as `value:1 << 64`; a part alone (tokens, places, scan, table, lookup, unread, malformed, value, field, selection) is all
+of it. The last line says how many passed and how many failed."""
 import collections
 import os
 import sys
@@ -8,6 +8,7 @@ from functools import partial
 
 import evaluation
 import field
+import offsets
 import positions
 import selection
 import tables
@@ -20,16 +21,16 @@ from tally import check, choose, chosen, end
 
 
 def field_answer(wanted, room):
-    """A field's refusal, length and whole buffer."""
+    """A field's refusal with its offset, length and whole buffer."""
     before = library.untouched(room)
-    return (wanted, 0, before) if isinstance(wanted, int) else (0, len(wanted), wanted + before[len(wanted):])
+    return (*wanted, 0, before) if isinstance(wanted, tuple) else (0, 0, len(wanted), wanted + before[len(wanted):])
 
 
-def selection_answer(refusal, line, marks, count, room):
-    """A selection's refusal, numbers and whole array of marks."""
+def selection_answer(refusal, line, offset, marks, count, room):
+    """A selection's refusal with its line and offset, its numbers and the whole array of marks."""
     if refusal:
-        return refusal, (line, 0, 0), b"\xff" * room
-    return 0, (0, len(marks), count), marks + library.unmarked(room)[len(marks):]
+        return refusal, line, offset, 0, 0, b"\xff" * room
+    return 0, 0, 0, len(marks), count, marks + library.unmarked(room)[len(marks):]
 
 
 def hardly_read():
@@ -41,9 +42,12 @@ def hardly_read():
 def vectors():
     """Every vector: its part, its input, the other arguments in words, the call and the answer that it has to give."""
     for expression, refusal, read in tokens.VECTORS:
-        yield "tokens", expression, "", partial(library.tokens, expression), (refusal, tokens.expected(read, expression))
+        wanted = refusal, tokens.place(refusal, read, expression), tokens.expected(read, expression)
+        yield "tokens", expression, "", partial(library.tokens, expression), wanted
     for expression, places in tokens.PLACES:
-        yield "places", expression, "", lambda: [token[1] for token in library.tokens(expression)[1]], places
+        yield "places", expression, "", lambda: [token[1] for token in library.tokens(expression)[2]], places
+    for expression, *wanted in offsets.TOKENS:
+        yield "scan", expression, "", lambda: list(library.tokens(expression)[:2]), wanted
     for table, good in tables.TABLES:
         yield "table", b"", "%d bytes" % len(table), partial(library.table, table), 0 if good else 1
     for table, name, found in tables.LOOKUPS + positions.LOOKUPS:

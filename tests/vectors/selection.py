@@ -1,12 +1,17 @@
-"""Gathers the vectors of selection: a file, a table, how many bytes of marks are lent, and the answer, which is a refusal number
-(0: none), its line, and the marks of the lines and the count of operators.
+"""Gathers the vectors of selection: a file, a table, how many bytes of marks are lent, and the answer, which is the refusal's number
+(0: none), line and offset, and the marks of the lines and the count of operators.
 """
 import arguments
 import bars
 import groups
 import limits
 import lines
+import offsets
+import placed_lines
 from settings import TABLE
+
+# The refusals that have a place; all others have the offset 0.
+PLACED = range(3, 13)
 
 WHOLE = (
     [(file, table, wanted) for file, wanted in lines.VECTORS for table in (b"", TABLE)]
@@ -14,6 +19,7 @@ WHOLE = (
     + arguments.VECTORS
     + bars.VECTORS
     + limits.VECTORS
+    + [(file, TABLE, wanted) for file, wanted in placed_lines.VECTORS]
 )
 
 
@@ -23,10 +29,14 @@ def line_count(file):
 
 
 def answer(wanted):
-    first, second = wanted
-    if isinstance(first, int):
-        return first, second, b"", 0
-    return 0, 0, bytes(int(mark) for mark in first), second
+    """The answer that a vector wants. A refusal that has a place needs its offset, and no other has one."""
+    if isinstance(wanted[0], str):
+        marks, count = wanted
+        return 0, 0, 0, bytes(int(mark) for mark in marks), count
+    number, line, *offset = wanted
+    if (number in PLACED) != bool(offset):
+        raise AssertionError("a vector with %r: the offset is missing, or there is none" % (wanted,))
+    return number, line, *(offset or [0]), b"", 0
 
 
 def rooms(file, table, wanted):
@@ -39,3 +49,4 @@ def rooms(file, table, wanted):
 
 
 VECTORS = [each for vector in WHOLE for each in rooms(*vector)]
+VECTORS += [(file, table, line_count(file), answer(wanted)) for file, table, wanted in offsets.SELECTIONS]

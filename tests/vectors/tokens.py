@@ -1,8 +1,9 @@
 """Expressions and their tokens, worked out by hand from document 01 and the decisions in docs/DECISIONS.md.
 
 A vector is an expression, its refusal number (0: none) and the tokens that are read. A token is written as its text, followed by
-its value where it is a number or a truth word; where its place matters, PLACES gives it.
+its value where it is a number or a truth word; where its place matters, PLACES gives it. The place of a refusal follows from the tokens.
 """
+import itertools
 
 # The code of each spelling that has just one.
 SYMBOLS = {
@@ -255,14 +256,31 @@ PLACES = [
 ]
 
 
+def after_blanks(expression, at):
+    while expression[at : at + 1] in (b" ", b"\t"):
+        at += 1
+    return at
+
+
 def expected(tokens, expression):
     """The tokens with their places: each stands at the first place after the one before where its text is found past blanks."""
     at, out = 0, []
     for code, text, value in tokens:
-        while expression[at : at + 1] in (b" ", b"\t"):
-            at += 1
+        at = after_blanks(expression, at)
         out.append((code, at, len(text), value))
         if expression[at : at + len(text)] != text:
             raise AssertionError("the vector's tokens are not the expression's text")
         at += len(text)
     return out
+
+
+def place(refusal, tokens, expression):
+    """Where a refusal is: 3, 4 and 5 at the first byte after the tokens that were read and blanks, 6 at the first token after which `(`
+    outnumber `)` by 17, all others at 0."""
+    read = expected(tokens, expression)
+    if refusal in (3, 4, 5):
+        return after_blanks(expression, read[-1][1] + read[-1][2] if read else 0)
+    if refusal == 6:
+        depths = list(itertools.accumulate({b"(": 1, b")": -1}.get(text, 0) for _, text, _ in tokens))
+        return read[depths.index(17)][1]
+    return 0

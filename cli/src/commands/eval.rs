@@ -3,7 +3,8 @@
 use super::request::Request;
 use super::subcommand::{Operand, Subcommand};
 use crate::library;
-use crate::terminal::{print, push_literal, quote_for, refused, Error};
+use crate::refusals::of_expression;
+use crate::terminal::{print, push_literal, quote_for, Error};
 
 pub static EVAL: Subcommand = Subcommand {
     name: "eval",
@@ -18,8 +19,9 @@ pub static EVAL: Subcommand = Subcommand {
 
 fn run(request: &Request) -> Result<(), Error> {
     let table = request.sources().merged()?;
-    let value = library::evaluate(request.operand(), &table)
-        .map_err(|number| refused(b"expression", number))?;
+    let expression = request.operand();
+    let value = library::evaluate(expression, &table)
+        .map_err(|refusal| of_expression(expression, &table, &refusal))?;
     let mut text = Vec::new();
     push_literal(&mut text, &value, quote_for(&value));
     text.push(b'\n');

@@ -3,7 +3,8 @@
 use super::request::Request;
 use super::subcommand::{Operand, Subcommand};
 use crate::library::{self, datum};
-use crate::terminal::{escaped, hexadecimal, print, refused, Error};
+use crate::refusals::of_field;
+use crate::terminal::{escaped, hexadecimal, print, Error};
 
 pub static FIELD: Subcommand = Subcommand {
     name: "field",
@@ -16,30 +17,26 @@ pub static FIELD: Subcommand = Subcommand {
     run,
 };
 
-/// The first refusal of the field itself; those below it are of the expression.
-const FIRST_OF_FIELD: u8 = 23;
-
 fn run(request: &Request) -> Result<(), Error> {
-    let datum = datum(request).map_err(Error::Usage)?;
+    let name = request.one("--datum").ok_or("no --datum TYPE");
+    let name = name.map_err(|reason| Error::Usage(reason.into()))?;
+    let (code, taken) = datum(name).map_err(Error::Usage)?;
     let table = request.sources().merged()?;
-    let bytes =
-        library::field(request.operand(), &table, datum).map_err(|number| match number {
-            FIRST_OF_FIELD.. => refused(b"field", number),
-            _ => refused(b"expression", number),
-        })?;
+    let expression = request.operand();
+    let bytes = library::field(expression, &table, code)
+        .map_err(|refusal| of_field(expression, &table, (name, taken), &refusal))?;
     print((hexadecimal(&bytes) + "\n").as_bytes())
 }
 
-/// The datum code of the type that --datum names.
-fn datum(request: &Request) -> Result<u8, String> {
-    let name = request.one("--datum").ok_or("no --datum TYPE")?;
+/// The datum code of a type, and the values that it takes.
+fn datum(name: &[u8]) -> Result<(u8, &'static str), String> {
     Ok(match name {
-        b"VOID*" => datum::VOID,
-        b"BOOLEAN" => datum::BOOLEAN,
-        b"UINT8" => datum::UINT8,
-        b"UINT16" => datum::UINT16,
-        b"UINT32" => datum::UINT32,
-        b"UINT64" => datum::UINT64,
+        b"VOID*" => (datum::VOID, "a string or a wide string"),
+        b"BOOLEAN" => (datum::BOOLEAN, "0 or 1"),
+        b"UINT8" => (datum::UINT8, "0 to 255"),
+        b"UINT16" => (datum::UINT16, "0 to 65,535"),
+        b"UINT32" => (datum::UINT32, "0 to 4,294,967,295"),
+        b"UINT64" => (datum::UINT64, "any number"),
         _ => return Err(format!("unknown datum type {}", escaped(name))),
     })
 }

@@ -2,8 +2,9 @@
 
 use super::request::Request;
 use super::subcommand::{Operand, Subcommand};
-use crate::library::{self, mark, Refused};
-use crate::terminal::{annotated, escaped, print, read, refused, Error};
+use crate::library::{self, mark};
+use crate::refusals::of_file;
+use crate::terminal::{annotated, escaped, lines, print, read, without_end, Error};
 
 pub static SELECT: Subcommand = Subcommand {
     name: "select",
@@ -27,7 +28,8 @@ fn run(request: &Request) -> Result<(), Error> {
     let table = request.sources().merged()?;
     let name = request.operand();
     let file = read(name)?;
-    let marks = library::select(&file, &table).map_err(|found| refused_at(name, &file, found))?;
+    let marks =
+        library::select(&file, &table).map_err(|refusal| of_file(name, &file, &table, &refusal))?;
     let lines: Vec<&[u8]> = lines(&file).collect();
     if lines.len() != marks.len() {
         // Both split the file by the same rule; if they ever differ, no line may be lost.
@@ -48,32 +50,5 @@ fn run(request: &Request) -> Result<(), Error> {
             .map(|(line, _)| line)
             .collect();
         print(&kept.concat())
-    }
-}
-
-/// The lines of a file, each with its own end.
-fn lines(file: &[u8]) -> impl Iterator<Item = &[u8]> {
-    file.split_inclusive(|&byte| byte == b'\n')
-}
-
-/// A line's text. A CR is part of the line's end only right before an LF.
-fn without_end(line: &[u8]) -> &[u8] {
-    match line {
-        [text @ .., b'\r', b'\n'] | [text @ .., b'\n'] => text,
-        _ => line,
-    }
-}
-
-/// The refusal of a file, with the line if it is of one.
-fn refused_at(name: &[u8], file: &[u8], Refused { number, line }: Refused) -> Error {
-    if line == 0 {
-        return refused(name, number);
-    }
-    Error::Refused {
-        what: format!("{}:{line}", escaped(name)),
-        number,
-        line: lines(file)
-            .nth(line as usize - 1)
-            .map(|line| escaped(without_end(line))),
     }
 }

@@ -3,7 +3,8 @@
 use super::request::Request;
 use super::subcommand::{Operand, Subcommand};
 use crate::library::{self, token, Token};
-use crate::terminal::{print, refused, Error};
+use crate::refusals::of_expression;
+use crate::terminal::{print, Error};
 
 pub static TOKENS: Subcommand = Subcommand {
     name: "tokens",
@@ -27,7 +28,8 @@ fn run(request: &Request) -> Result<(), Error> {
     print(&text)?;
     match found.refusal {
         None => Ok(()),
-        Some(number) => Err(refused(b"expression", number)),
+        // No table has a part in tokens and their refusals.
+        Some(refusal) => Err(of_expression(expression, b"", &refusal)),
     }
 }
 

@@ -3,16 +3,16 @@
 use bindings::kind;
 
 use super::limit::MAX_FIELD_BYTES;
-use super::Value;
+use super::{Refusal, Value};
 
-/// The value of an expression under a table, or the refusal number.
-pub fn evaluate<'a>(expression: &'a [u8], table: &'a [u8]) -> Result<Value<'a>, u8> {
-    let mut out = [0; 6];
+/// The value of an expression under a table.
+pub fn evaluate<'a>(expression: &'a [u8], table: &'a [u8]) -> Result<Value<'a>, Refusal> {
+    let mut out = [0; 7];
     let refusal = bindings::evaluate(expression, table, &mut out);
+    let [found, number, _, memory, start, len, offset] = out;
     if refusal != 0 {
-        return Err(refusal);
+        return Err(Refusal::of_expression(refusal, offset));
     }
-    let [found, number, _, memory, start, len] = out;
     let string = || &[expression, table][memory as usize][start as usize..][..len as usize];
     Ok(match found {
         kind::NUMBER => Value::Number(number),
@@ -21,13 +21,14 @@ pub fn evaluate<'a>(expression: &'a [u8], table: &'a [u8]) -> Result<Value<'a>, 
     })
 }
 
-/// The bytes of a data field, or the refusal number.
-pub fn field(expression: &[u8], table: &[u8], datum: u8) -> Result<Vec<u8>, u8> {
+/// The bytes of a data field.
+pub fn field(expression: &[u8], table: &[u8], datum: u8) -> Result<Vec<u8>, Refusal> {
     let mut buffer = vec![0; MAX_FIELD_BYTES];
-    let mut written = 0;
-    let refusal = bindings::field(&mut buffer, expression, table, datum, &mut written);
+    let mut out = [0; 2];
+    let refusal = bindings::field(&mut buffer, expression, table, datum, &mut out);
+    let [written, offset] = out;
     if refusal != 0 {
-        return Err(refusal);
+        return Err(Refusal::of_expression(refusal, offset));
     }
     buffer.truncate(written as usize);
     Ok(buffer)

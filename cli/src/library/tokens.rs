@@ -1,6 +1,7 @@
 //! Tokens of expressions.
 
 use super::limit::MAX_TOKENS;
+use super::Refusal;
 
 /// One token of an expression.
 pub struct Token {
@@ -10,15 +11,15 @@ pub struct Token {
     pub value: u64,
 }
 
-/// The tokens that were read, and the refusal number if there is one.
+/// The tokens that were read, and the refusal if there is one.
 pub struct Tokens {
     pub read: Vec<Token>,
-    pub refusal: Option<u8>,
+    pub refusal: Option<Refusal>,
 }
 
 /// The tokens of an expression.
 pub fn tokens(expression: &[u8]) -> Tokens {
-    let mut out = [0; 2];
+    let mut out = [0; 3];
     let mut codes = [0; MAX_TOKENS];
     let mut starts = [0; MAX_TOKENS];
     let mut lens = [0; MAX_TOKENS];
@@ -31,7 +32,7 @@ pub fn tokens(expression: &[u8]) -> Tokens {
         &mut lens,
         &mut values,
     );
-    let [refusal, count] = out;
+    let [number, count, offset] = out;
     let token = |i: usize| Token {
         code: codes[i],
         start: usize::from(starts[i]),
@@ -40,7 +41,7 @@ pub fn tokens(expression: &[u8]) -> Tokens {
     };
     Tokens {
         read: (0..count as usize).map(token).collect(),
-        refusal: (refusal != 0).then_some(refusal as u8),
+        refusal: (number != 0).then(|| Refusal::of_expression(number as u8, offset)),
     }
 }
 

@@ -29,7 +29,8 @@ pub fn no_word(text: &[u8], at: usize) -> String {
 pub fn no_literal(text: &[u8]) -> String {
     let found = library::tokens(text);
     let first = found.read.first();
-    match (found.refusal, first.filter(|first| is_literal(first.code))) {
+    let refusal = found.refusal.map(|refusal| refusal.number);
+    match (refusal, first.filter(|first| is_literal(first.code))) {
         (Some(TOO_LONG), _) => format!(
             "a value of {} bytes, and at most 1,024 are read",
             text.len()

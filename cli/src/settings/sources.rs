@@ -7,7 +7,8 @@ use super::setting::Setting;
 use super::{definition, file};
 use crate::library::check_table;
 use crate::library::limit::MAX_RECORDS;
-use crate::terminal::{read, refused, Error};
+use crate::refusals::of_table;
+use crate::terminal::{read, Error};
 
 /// A ready table, files of settings, and settings on the command line; each overrides those before it.
 pub struct Sources<'a> {
@@ -66,6 +67,6 @@ impl Sources<'_> {
 fn checked(table: Vec<u8>, name: &[u8]) -> Result<Vec<u8>, Error> {
     match check_table(&table) {
         None => Ok(table),
-        Some(number) => Err(refused(name, number)),
+        Some(number) => Err(of_table(name, number)),
     }
 }

@@ -1,25 +1,45 @@
 //! Bytes from outside, as people see them.
 
+/// A character, or a byte that is none: the offset of its first byte, and how it is shown.
+pub struct Shown {
+    pub offset: usize,
+    pub text: String,
+}
+
 /// Text as it is, except that control characters other than the tab, and bytes that are not UTF-8, become \xNN: none of them reaches a
 /// terminal.
 pub fn escaped(bytes: &[u8]) -> String {
-    let mut text = String::new();
-    for chunk in bytes.utf8_chunks() {
-        for character in chunk.valid().chars() {
-            if character.is_control() && character != '\t' {
-                let mut encoded = [0; 4];
-                push_escapes(&mut text, character.encode_utf8(&mut encoded).as_bytes());
-            } else {
-                text.push(character);
-            }
-        }
-        push_escapes(&mut text, chunk.invalid());
-    }
-    text
+    characters(bytes).map(|shown| shown.text).collect()
 }
 
-fn push_escapes(text: &mut String, bytes: &[u8]) {
-    for byte in bytes {
-        *text += &format!("\\x{byte:02X}");
+/// The characters of a text, each as `escaped` shows it.
+pub fn characters(bytes: &[u8]) -> impl Iterator<Item = Shown> + '_ {
+    let mut offset = 0;
+    bytes.utf8_chunks().flat_map(move |chunk| {
+        let start = offset;
+        let invalid = start + chunk.valid().len();
+        offset = invalid + chunk.invalid().len();
+        let valid = chunk.valid().char_indices();
+        let valid = valid.map(move |(at, character)| Shown {
+            offset: start + at,
+            text: shown(character),
+        });
+        let others = (invalid..).zip(chunk.invalid());
+        valid.chain(others.map(|(offset, byte)| Shown {
+            offset,
+            text: escape(byte),
+        }))
+    })
+}
+
+fn shown(character: char) -> String {
+    let text = character.to_string();
+    match character.is_control() && character != '\t' {
+        true => text.as_bytes().iter().map(escape).collect(),
+        false => text,
     }
+}
+
+fn escape(byte: &u8) -> String {
+    format!("\\x{byte:02X}")
 }

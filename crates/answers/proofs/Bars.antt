@@ -1,29 +1,33 @@
 -- The rule on bars decides refusal 8 and nothing else (document 02, order 1). Assumes nothing.
 use Prim.Native.Nat.{ℕ, zero, suc}
-use mathlib.Core.Path.{_≡_, refl, sym, ap₂, fun-ext, _∙_}
-use mathlib.Core.Logic.{_↔_}
-use mathlib.Core.Bool.{Bool, true, false, false≢true}
+use native.Mathlib.Omega.{arith}
+use mathlib.Core.Path.{_≡_, refl, ap₂, fun-ext}
+use mathlib.Core.Bool.{false≢true}
 use mathlib.Core.List.{List, [], _∷_}
 use lib.ListN.{length, getD}
 use Rattle.units.specs.Refusals.{BAR-OUTSIDE}
 use Rattle.units.specs.Dialects.{STRICT, inDirectives}
 use Rattle.units.specs.declared.Dialect.{Dialect}
+use Rattle.units.specs.declared.Offset.{Offset}
+use Rattle.units.specs.declared.Where.{Where}
+use Rattle.units.specs.declared.Where.the-variants.{Nowhere, At}
 use Rattle.text.specs.Bytes.{classOf}
 use Rattle.text.specs.declared.bytes.Class.{Class}
 use Rattle.text.specs.declared.bytes.Class.the-variants.{Initial, Digit, Quote, Blank, Operator, Dollar, Comment, Other}
 use Rattle.lexeme.specs.Lexeme.{wordOf, lexemeBy, lexeme}
-use Rattle.token.specs.Tokens.{Token, readFrom, readByte, codesOf, reading}
+use Rattle.token.specs.Tokens.{Token, firstPlace, readFrom, readByte, reading}
 use Rattle.token.specs.declared.scan.Ending.{Ending}
 use Rattle.token.specs.declared.scan.Ending.the-variants.{Complete, Refused}
 use Rattle.grammar.specs.Grammar.{Tree, expression, Derives}
-use Rattle.grammar.specs.Bars.{bare}
+use Rattle.grammar.specs.Bars.{bareBars}
 use Rattle.grammar.specs.Fold.{fold}
 use Rattle.grammar.specs.Parse.{Outcome, refused as underived, accepted, parse}
 use Rattle.value.specs.Places.{Memory}
-use Rattle.value.specs.Values.{hasMissingPcd}
 use Rattle.value.specs.Attributes.{Attributes}
 use Rattle.expression.specs.Meaning.{codeOf, meaning}
-use Rattle.evaluation.specs.Evaluation.{Evaluation, refusedWith, checkThenAnswer, tokenIn, barRefused, answerTokens, ofTokens, ended, evaluationIn}
+use Rattle.leftmost.specs.Leftmost.{barAt, pcdAt}
+use Rattle.evaluation.specs.Evaluation.{Evaluation, value, refused, refusalNumber, refusedAt, checkThenAnswer, tokenIn, startIn, answerTokens, ofTokens}
+use Rattle.evaluation.specs.Evaluation.{ended, evaluationIn}
 use Rattle.answers.proofs.AnswersExact.{derived, kind-sound}
 use Rattle.answers.proofs.RefusalNumbers.{InAnswer, in-check-then-answer}
 
@@ -54,45 +58,48 @@ pub same-reading : (e : List ℕ) (δ : Dialect) → reading e (inDirectives δ)
 unfolding reading
 same-reading e δ = rw (same-from 0 200 0 e δ)
 
+-- an answer with another number is not 8
+not-bar : (x : Evaluation) → InAnswer x → refusalNumber x ≡ BAR-OUTSIDE → ⊥
+not-bar (value v n) w h = omega arith
+not-bar (refused r) w h = false≢true (rw h at w)
+
 -- the answer does not depend on the rule either, unless it is 8
 module _ (m : Memory) (δ : Dialect) where
   abbrev Same : Evaluation → Evaluation → Type 0
-  Same x y = (x ≡ refusedWith BAR-OUTSIDE → ⊥) → y ≡ x
+  Same x y = (refusalNumber x ≡ BAR-OUTSIDE → ⊥) → y ≡ x
 
-  same-answer : (bar missing : Bool) (o : Outcome Attributes) → Same (answerTokens bar missing o) (answerTokens false missing o)
-  same-answer bar missing (underived i) h = refl
-  same-answer false missing (accepted a) h = refl
-  same-answer true missing (accepted a) h = absurd (h refl)
+  same-answer : (start : ℕ → ℕ) (bar pcd : Where) (o : Outcome Attributes) → Same (answerTokens start bar pcd o) (answerTokens start Nowhere pcd o)
+  same-answer start bar pcd (underived i) h = refl
+  same-answer start Nowhere pcd (accepted a) h = refl
+  same-answer start (At o) pcd (accepted a) h = absurd (h refl)
 
-  same-tokens : (ts : List Token) → Same (ofTokens m ts δ) (ofTokens m ts (inDirectives δ))
+  same-tokens : (ts : List Token) (end : ℕ) → Same (ofTokens m ts end δ) (ofTokens m ts end (inDirectives δ))
   unfolding ofTokens
-  same-tokens ts = same-answer (barRefused (codesOf ts) δ) (hasMissingPcd m ts) (parse codeOf (meaning m) (tokenIn ts) (length ts))
+  same-tokens ts end = same-answer (startIn ts end) (barAt ts δ) (pcdAt m ts) (parse codeOf (meaning m) (tokenIn ts) (length ts))
 
-  same-ended : (x : Ending) (ts : List Token) → Same (ended x (ofTokens m ts δ)) (ended x (ofTokens m ts (inDirectives δ)))
+  same-ended : (x : Ending) (ts : List Token) → Same (ended x (λ end. ofTokens m ts end δ)) (ended x (λ end. ofTokens m ts end (inDirectives δ)))
   same-ended (Refused r) ts h = refl
-  same-ended Complete ts h = same-tokens ts h
+  same-ended (Complete end) ts h = same-tokens ts (end .0) h
 
-  pub bars-only : (evaluationIn m δ ≡ refusedWith BAR-OUTSIDE → ⊥) → evaluationIn m (inDirectives δ) ≡ evaluationIn m δ
+  pub bars-only : (refusalNumber (evaluationIn m δ) ≡ BAR-OUTSIDE → ⊥) → evaluationIn m (inDirectives δ) ≡ evaluationIn m δ
   unfolding evaluationIn
   bars-only h =
       rw (same-reading (m .expression) δ)
       (same-ended (reading (m .expression) δ .ending) (reading (m .expression) δ .tokens) h)
 
--- an expression by itself is refused with 8 exactly if its derivation has a bar outside parentheses
-module _ (m : Memory) (complete : reading (m .expression) STRICT .ending ≡ Complete) where
+-- an expression by itself is refused with 8, at the leftmost bar outside parentheses, exactly if its derivation has one
+module _ (m : Memory) (end : Offset) (complete : reading (m .expression) STRICT .ending ≡ Complete end) where
   abbrev read : List Token
   read = reading (m .expression) STRICT .tokens
 
   module _ (s : Tree Token) (d : Derives codeOf expression read s) where
-    answered : (b : Bool) → bare codeOf d ≡ b → evaluationIn m STRICT ≡ checkThenAnswer b (hasMissingPcd m read) (fold (meaning m) s)
-    answered b e = rw (← e) (derived m STRICT complete s d)
+    answered : (ks : List Token) → bareBars codeOf d ≡ ks → evaluationIn m STRICT ≡ checkThenAnswer (firstPlace ks) (pcdAt m read) (fold (meaning m) s)
+    answered ks e = rw (← e) (derived m STRICT end complete s d)
 
-    seen : (b : Bool) → bare codeOf d ≡ b → evaluationIn m STRICT ≡ refusedWith BAR-OUTSIDE → bare codeOf d ≡ true
-    seen true e h = e
-    seen false e h =
-        let other = in-check-then-answer (hasMissingPcd m read) (fold (meaning m) s) (kind-sound m s) in
-        let w : InAnswer (refusedWith BAR-OUTSIDE) = rw (sym (answered false e) ∙ h) at other in
-        absurd (false≢true w)
+    pub eight-at : (k : Token) (ks : List Token) → bareBars codeOf d ≡ k ∷ ks → evaluationIn m STRICT ≡ refusedAt BAR-OUTSIDE (k .start)
+    eight-at k ks e = answered (k ∷ ks) e
 
-    pub eight-exactly : (evaluationIn m STRICT ≡ refusedWith BAR-OUTSIDE) ↔ (bare codeOf d ≡ true)
-    eight-exactly = (seen (bare codeOf d) refl, answered true)
+    pub eight-without : bareBars codeOf d ≡ [] → refusalNumber (evaluationIn m STRICT) ≡ BAR-OUTSIDE → ⊥
+    eight-without e h =
+        let other = in-check-then-answer (pcdAt m read) (fold (meaning m) s) (kind-sound m s) in
+        not-bar (evaluationIn m STRICT) (rw (answered [] e) other) h

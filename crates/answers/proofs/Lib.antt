@@ -1,6 +1,11 @@
 pub mod AnswersExact
+pub mod NoDerivation
+pub mod MissingPcd
 pub mod StringsInBounds
 pub mod LineZero
 pub mod AnswerIsolated
 pub mod RefusalNumbers
 pub mod Bars
+pub mod Unplaced
+pub mod Blamed
+pub mod Faulted

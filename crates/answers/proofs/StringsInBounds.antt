@@ -28,7 +28,7 @@ module _ (m : Memory) (δ : Dialect) where
   setting-in-bounds : (v : CodedValue) → WithinTable (m .table) v → InBounds m (denoteValue m v)
   setting-in-bounds (Number x) h = tt
   setting-in-bounds (Text k p) h = (refl, rw (h .0) (h .1))
-  setting-in-bounds (Fault r) h = absurd h
+  setting-in-bounds (Fault f) h = absurd h
 
   primary-in-bounds : (k : Token) → Within (length (m .expression)) k → InBounds m (primaryValue m k)
   unfolding primaryValue
@@ -43,9 +43,9 @@ module _ (m : Memory) (δ : Dialect) where
   preserves =
       record {
         leaf = primary-in-bounds;
-        unary = λ o a _. of-unary (InBounds m) (λ _. tt) (λ _. tt) (o .code) (a .value);
-        binary = λ o a b _ _. of-binary (InBounds m) (λ _. tt) (λ _. tt) (o .code) (a .value) (b .value);
-        choice = λ q c a b _ g h. of-choice (InBounds m) (λ _. tt) (λ _. tt) (c .value) (a .value) (b .value) g h;
+        unary = λ o a _ _. of-unary (InBounds m) (λ _. tt) (λ _. tt) (o .code) (o .start) (a .value);
+        binary = λ o a b _ _ _. of-binary (InBounds m) (λ _. tt) (λ _. tt) (o .code) (o .start) (a .value) (b .value);
+        choice = λ q c a b _ _ g h. of-choice (InBounds m) (λ _. tt) (λ _. tt) (q .start) (c .value) (a .value) (b .value) g h;
       }
 
   pub strings-in-bounds : (v : Value) (n : ℕ) → evaluationIn m δ ≡ value v n → InBounds m v

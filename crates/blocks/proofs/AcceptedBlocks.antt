@@ -36,13 +36,13 @@ module _ (t : List ℕ) (δ : Dialect) where
     where
       by : (gs : List Group) → atEnd gs (s .count) ≡ accepted ms c → Follows gs []
       by [] e = (nothing-left 16, tt)
-      by (g ∷ gs) e = never _ 21 (g .line) ms c e
+      by (g ∷ gs) e = never _ _ (g .line) ms c e
   accepted-follows (l ∷ ls) n s ms c h e = by (step t n s l δ) refl e (accepted-follows ls (n + 1))
     where
       on : (m : ℕ) (s′ : State) → step t n s l δ ≡ go m s′ → (r : Result) → run t (n + 1) s′ ls δ ≡ r → prepend m r ≡ accepted ms c
           → ((s′ : State) (ms : List ℕ) (c : ℕ) → length (s′ .groups) ≤ 16 → run t (n + 1) s′ ls δ ≡ accepted ms c → Follows (s′ .groups) ls)
           → Follows (s .groups) (l ∷ ls)
-      on m s′ q (refused k j) p e ih = never _ k j ms c e
+      on m s′ q (refused x j) p e ih = never _ x j ms c e
       on m s′ q (accepted ns d) p e ih =
           let v = passed t δ n s l m s′ q in
           let k = v .1 .few h in
@@ -52,5 +52,5 @@ module _ (t : List ℕ) (δ : Dialect) where
       by : (o : Outcome) → step t n s l δ ≡ o → after o n (λ s′. run t (n + 1) s′ ls δ) ≡ accepted ms c
           → ((s′ : State) (ms : List ℕ) (c : ℕ) → length (s′ .groups) ≤ 16 → run t (n + 1) s′ ls δ ≡ accepted ms c → Follows (s′ .groups) ls)
           → Follows (s .groups) (l ∷ ls)
-      by (stop r) q e ih = never _ r n ms c e
+      by (stop x) q e ih = never _ x n ms c e
       by (go m s′) q e ih = on m s′ q (run t (n + 1) s′ ls δ) refl e ih

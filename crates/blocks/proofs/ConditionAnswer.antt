@@ -4,7 +4,7 @@ use mathlib.Core.Path.{_≡_, _∙_}
 use mathlib.Core.Logic.{_⊎_, inl, inr}
 use mathlib.Core.Bool.{true, false}
 use mathlib.Core.List.{List}
-use Rattle.units.specs.Refusals.{TEXT-MALFORMED}
+use Rattle.units.specs.Refusals.{TEXT-MALFORMED, unplaced}
 use Rattle.units.specs.Dialects.{inDirectives}
 use Rattle.units.specs.declared.Dialect.{Dialect}
 use Rattle.value.specs.Places.{over}
@@ -24,6 +24,6 @@ module _ (t : List ℕ) (d : Directive) (s : List ℕ) (δ : Dialect) (condition
   unfolding ofExpression
   condition-answer h = by-expression conditional ∙ rw h
 
-  pub unspaced : spaced s ≡ false → evaluate t d s δ ≡ Refused TEXT-MALFORMED
+  pub unspaced : spaced s ≡ false → evaluate t d s δ ≡ Refused (unplaced TEXT-MALFORMED)
   unfolding ofExpression
   unspaced h = by-expression conditional ∙ rw h

@@ -4,6 +4,7 @@ use native.Mathlib.Nat.{add-zero, add-assoc}
 use mathlib.Core.Path.{_≡_, refl, sym, ap, _∙_}
 use mathlib.Core.List.{List, [], _∷_, _++_}
 use lib.ListN.{length, length-append}
+use Rattle.units.specs.declared.Fault.{Fault}
 use Rattle.select.specs.Select.{Result, accepted, refused, prepend}
 use Rattle.blocks.specs.Meaning.{Meaning, means, fault, single, _then_}
 
@@ -20,18 +21,18 @@ pub onto-accepted : (ms ns : List ℕ) (c : ℕ) → onto ms (accepted ns c) ≡
 onto-accepted [] ns c = refl
 onto-accepted (m ∷ ms) ns c = ap (prepend m) (onto-accepted ms ns c)
 
-pub onto-refused : (ms : List ℕ) (r n : ℕ) → onto ms (refused r n) ≡ refused r n
-onto-refused [] r n = refl
-onto-refused (m ∷ ms) r n = ap (prepend m) (onto-refused ms r n)
+pub onto-refused : (ms : List ℕ) (x : Fault) (n : ℕ) → onto ms (refused x n) ≡ refused x n
+onto-refused [] x n = refl
+onto-refused (m ∷ ms) x n = ap (prepend m) (onto-refused ms x n)
 
 -- from line n on, with k operators applied: the lines of the meaning, then the rest
 abbrev pub follow : (n k : ℕ) → Meaning → (ℕ → ℕ → Result) → Result
 follow n k (means ms c) rest = onto ms (rest (n + length ms) (k + c))
-follow n k (fault r i) rest = refused r (n + i)
+follow n k (fault x i) rest = refused x (n + i)
 
 pub follow-ext : (n k : ℕ) (m : Meaning) (f g : ℕ → ℕ → Result) → ((n k : ℕ) → f n k ≡ g n k) → follow n k m f ≡ follow n k m g
 follow-ext n k (means ms c) f g h = ap (onto ms) (h (n + length ms) (k + c))
-follow-ext n k (fault r i) f g h = refl
+follow-ext n k (fault x i) f g h = refl
 
 pub follow-none : (n k : ℕ) (f : ℕ → ℕ → Result) → follow n k (means [] 0) f ≡ f n k
 follow-none n k f = rw (add-zero n, add-zero k)
@@ -40,9 +41,9 @@ pub follow-then : (n k : ℕ) (a b : Meaning) (f : ℕ → ℕ → Result) → f
 follow-then n k (means ms c) (means ns d) f =
     onto-append ms ns (f (n + length (ms ++ ns)) (k + (c + d)))
     ∙ rw (length-append, ← add-assoc n, ← add-assoc k)
-follow-then n k (means ms c) (fault r i) f =
-    rw (← add-assoc n) (sym (onto-refused ms r (n + length ms + i)))
-follow-then n k (fault r i) b f = refl
+follow-then n k (means ms c) (fault x i) f =
+    rw (← add-assoc n) (sym (onto-refused ms x (n + length ms + i)))
+follow-then n k (fault x i) b f = refl
 
 pub follow-single : (n k m c : ℕ) (b : Meaning) (f : ℕ → ℕ → Result) → follow n k (single m c then b) f ≡ prepend m (follow (n + 1) (k + c) b f)
 follow-single n k m c b f = follow-then n k (single m c) b f

@@ -8,6 +8,7 @@ use mathlib.Core.Bool.{true}
 use mathlib.Core.List.{List, [], append-nil}
 use lib.ListN.{length}
 use Rattle.units.specs.declared.Dialect.{Dialect}
+use Rattle.units.specs.declared.Fault.{Fault}
 use Rattle.settings.specs.Table.{wellFormed}
 use Rattle.line.specs.Lines.{lines}
 use Rattle.groups.specs.Groups.{state}
@@ -27,7 +28,7 @@ unambiguous ls a b p q = same-blocks a (p .words) b (q .words) [] [] tt tt (simp
 follow-end : (t : List ℕ) (δ : Dialect) (a : Meaning) → follow 1 0 a (λ n k. run t n (state [] k) [] δ) ≡ resultOf a
 unfolding run
 follow-end t δ (means ms c) = onto-accepted ms [] (0 + c) ∙ rw (append-nil, zero-add)
-follow-end t δ (fault r i) = rw (add-comm 1 i)
+follow-end t δ (fault x i) = rw (add-comm 1 i)
 
 pub run-complete : (t : List ℕ) (δ : Dialect) (ls : List (List ℕ)) (bs : Blocks) → Derives ls bs → depth bs ≤ 16 → WithinLimit ls
     → run t 1 start ls δ ≡ resultOf (meaning t true bs δ)
@@ -39,12 +40,12 @@ run-complete t δ ls bs d h s =
 -- the meaning of lines, from their result
 pub accepted-means : (a : Meaning) (ms : List ℕ) (c : ℕ) → resultOf a ≡ accepted ms c → a ≡ means ms c
 accepted-means (means ns d) ms c e = cc
-accepted-means (fault k i) ms c e = never _ k (i + 1) ms c e
+accepted-means (fault x i) ms c e = never _ x (i + 1) ms c e
 
-pub refused-means : (a : Meaning) (r i : ℕ) → resultOf a ≡ refused r (i + 1) → a ≡ fault r i
-refused-means (means ns d) r i e = never _ r (i + 1) ns d (sym e)
-refused-means (fault k j) r i e =
-    let p : k ≡ r = cc in
+pub refused-means : (a : Meaning) (x : Fault) (i : ℕ) → resultOf a ≡ refused x (i + 1) → a ≡ fault x i
+refused-means (means ns d) x i e = never _ x (i + 1) ns d (sym e)
+refused-means (fault y j) x i e =
+    let p : y ≡ x = cc in
     let q : j + 1 ≡ i + 1 = cc in
     let z : j ≡ i = omega arith in
     rw (p, z)

@@ -7,6 +7,7 @@ use mathlib.Core.List.{List, [], _∷_}
 use lib.ListN.{length, drop}
 use lib.Dec.{leb}
 use borrow.Author.Tests.{leb-false}
+use Rattle.units.specs.Refusals.{unplaced}
 use Rattle.text.specs.Bytes.{pick}
 use Rattle.line.specs.Directives.{directiveOf}
 use Rattle.line.specs.declared.Directive.{Directive}
@@ -20,6 +21,7 @@ use Rattle.groups.specs.declared.Transition.the-variants.{Push, Replace, Pop, R
 use Rattle.groups.specs.declared.Plan.the-variants.{Read, Unread}
 use Rattle.select.specs.Step.{planned, decided}
 use Rattle.blocks.specs.Blocks.{opens}
+use Rattle.blocks.proofs.Numbers.{same-number}
 use Rattle.blocks.proofs.StepByWord.{depth-length, some-open, live, opens-plan, opens-settled}
 use Rattle.blocks.proofs.MayFollow.{Front, Others, After, None, Rest, before-plain, before-opening, before-elseif, before-else, before-endif}
 
@@ -120,7 +122,7 @@ Can Unknown fs = Unit
 -- is not refused with 19
 abbrev pub Moving : Condition → Directive → ℕ → List Group → Outcome → Type 0
 Moving c d n gs (go m s) = Moved d n gs (s .groups)
-Moving c d n gs (stop r) = (c ≡ Refused 19 → ⊥) → Can d (flags gs) → r ≡ 19 → ⊥
+Moving c d n gs (stop x) = (c ≡ Refused (unplaced 19) → ⊥) → Can d (flags gs) → x ≡ unplaced 19 → ⊥
 
 -- a line that opens a group
 module _ (d : Directive) (o : opens d ≡ true) (n k : ℕ) (gs : List Group) where
@@ -136,11 +138,11 @@ module _ (d : Directive) (o : opens d ≡ true) (n k : ℕ) (gs : List Group) wh
       read c b j e = rw (opens-settled d o (innermost gs .flags) b) (enters (firstBranch true b) refl e)
 
       by : (a : Bool) → leb MAX-GROUPS (length gs) ≡ a → (b : Bool) (c : Condition)
-          → Moving c d n gs (planned (pick a (Unread (Refuse 20)) (pick b Read (Unread (Push UNREAD (firstBranch false false))))) d c n (state gs k))
-      by true e b c = λ w a z. omega arith
+          → Moving c d n gs (planned (pick a (Unread (Refuse (unplaced 20))) (pick b Read (Unread (Push UNREAD (firstBranch false false))))) d c n (state gs k))
+      by true e b c = λ w a z. omega (arith, same-number z)
       by false e true (Holds j) = read (Holds j) true j e
       by false e true (Fails j) = read (Fails j) false j e
-      by false e true (Refused r) = λ w a z. w (ap Refused z)
+      by false e true (Refused x) = λ w a z. w (ap Refused z)
       by false e false c = enters (firstBranch false false) refl e
 
 -- a line inside the group with these flags, or outside all groups
@@ -157,11 +159,11 @@ module _ (n k : ℕ) (gs : List Group) (f : Flags) (m : ℕ) where
     where
       by : (l : Bool) → f .last ≡ l → (r : Bool) (c : Condition)
           → Moving c Elseif n (group f m ∷ gs)
-          (planned (pick l (Unread (Refuse 19)) (pick r Read (Unread (Replace UNREAD (nextBranch f false false))))) Elseif c n around)
+          (planned (pick l (Unread (Refuse (unplaced 19))) (pick r Read (Unread (Replace UNREAD (nextBranch f false false))))) Elseif c n around)
       by true e r c = λ w a z. let x : Can Elseif (true ∷ flags gs) = rw e at a in x
       by false e true (Holds j) = turns true e
       by false e true (Fails j) = turns false e
-      by false e true (Refused r) = λ w a z. w (ap Refused z)
+      by false e true (Refused x) = λ w a z. w (ap Refused z)
       by false e false c = turns false e
 
   ends : (taken : Bool) → f .last ≡ false → Moved Else n (group f m ∷ gs) (group (nextBranch f taken true) m ∷ gs)
@@ -173,11 +175,11 @@ module _ (n k : ℕ) (gs : List Group) (f : Flags) (m : ℕ) where
     where
       by : (l : Bool) → f .last ≡ l → (r : Bool) (c : Condition)
           → Moving c Else n (group f m ∷ gs)
-          (planned (pick l (Unread (Refuse 19)) (pick r Read (Unread (Replace UNREAD (nextBranch f false true))))) Else c n around)
+          (planned (pick l (Unread (Refuse (unplaced 19))) (pick r Read (Unread (Replace UNREAD (nextBranch f false true))))) Else c n around)
       by true e r c = λ w a z. let x : Can Else (true ∷ flags gs) = rw e at a in x
       by false e true (Holds j) = ends (not (wasTaken f)) e
       by false e true (Fails j) = ends (not (wasTaken f)) e
-      by false e true (Refused r) = λ w a z. w (ap Refused z)
+      by false e true (Refused x) = λ w a z. w (ap Refused z)
       by false e false c = ends false e
 
   endif-moves : (c : Condition) → Moving c Endif n (group f m ∷ gs) (decided Endif c n around)
@@ -190,7 +192,7 @@ module _ (n k : ℕ) (gs : List Group) (f : Flags) (m : ℕ) where
       by : (r : Bool) (c : Condition) → Moving c Endif n (group f m ∷ gs) (planned (pick r Read (Unread (Pop UNREAD))) Endif c n around)
       by true (Holds j) = leaves
       by true (Fails j) = leaves
-      by true (Refused r) = λ w a z. w (ap Refused z)
+      by true (Refused x) = λ w a z. w (ap Refused z)
       by false c = leaves
 
 pub decided-moves : (d : Directive) (c : Condition) (n k : ℕ) (gs : List Group) → Moving c d n gs (decided d c n (state gs k))
@@ -205,4 +207,4 @@ decided-moves Else c n k [] = λ w a z. a
 decided-moves Else c n k (g ∷ gs) = else-moves n k gs (g .flags) (g .line) c
 decided-moves Endif c n k [] = λ w a z. a
 decided-moves Endif c n k (g ∷ gs) = endif-moves n k gs (g .flags) (g .line) c
-decided-moves Unknown c n k gs = λ w a z. omega arith
+decided-moves Unknown c n k gs = λ w a z. omega (arith, same-number z)

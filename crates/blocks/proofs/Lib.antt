@@ -1,3 +1,4 @@
+pub mod Numbers
 pub mod Passing
 pub mod Continuation
 pub mod StepByWord
@@ -23,3 +24,6 @@ pub mod PassableLines
 pub mod Refused
 pub mod NeverBar
 pub mod ConditionAnswer
+pub mod OwnOrText
+pub mod TextPlaces
+pub mod SelectionOffset

@@ -8,10 +8,10 @@ use mathlib.Core.List.{List, [], _∷_, _++_, append-assoc}
 use lib.ListN.{length, getD}
 use Rattle.units.specs.declared.Dialect.{Dialect}
 use Rattle.text.specs.Bytes.{pick}
-use Rattle.line.specs.Directives.{directiveOf, textOf}
+use Rattle.line.specs.Directives.{directiveOf}
 use Rattle.line.specs.Lines.{lines}
 use Rattle.line.specs.declared.Directive.the-variants.{Elseif, Else, Endif}
-use Rattle.condition.specs.Conditions.{evaluate}
+use Rattle.condition.specs.Conditions.{conditionOf}
 use Rattle.line.specs.declared.Condition.{Condition}
 use Rattle.line.specs.declared.Condition.the-variants.{Holds, Fails, Refused}
 use Rattle.isolation.specs.Isolation.{Read}
@@ -31,7 +31,7 @@ Tells (b ∷ bs) (m ∷ ms) = ((b ≡ true) ↔ Read m) × (m ≤ 5) × Tells bs
 
 abbrev Shows : List Bool → Meaning → Type 0
 Shows bs (means ms c) = Tells bs ms
-Shows bs (fault r i) = Unit
+Shows bs (fault x i) = Unit
 
 tells-append : (a b : List Bool) (ms ns : List ℕ) → Tells a ms → Tells b ns → Tells (a ++ b) (ms ++ ns)
 tells-append [] b [] ns h k = k
@@ -41,8 +41,8 @@ tells-append (x ∷ a) b (m ∷ ms) ns h k = (h .0, h .1, tells-append a b ms ns
 
 shows-then : (a b : List Bool) (x y : Meaning) → Shows a x → Shows b y → Shows (a ++ b) (x then y)
 shows-then a b (means ms c) (means ns d) h k = tells-append a b ms ns h k
-shows-then a b (means ms c) (fault r i) h k = tt
-shows-then a b (fault r i) y h k = tt
+shows-then a b (means ms c) (fault x i) h k = tt
+shows-then a b (fault x i) y h k = tt
 
 unread : (m c : ℕ) → m < 3 → Shows (false ∷ []) (single m c)
 unread m c h = ((λ e. absurd (false≢true e), λ r. absurd (omega arith)), omega arith, tt)
@@ -67,7 +67,7 @@ module _ (reads-body reads-others : Bool → List Bool) (body others : Bool → 
   branch-shows true (Holds n) false = line-shows true 4 n true true (read 4 n (omega arith) (omega arith))
   branch-shows true (Fails n) true = line-shows true 3 n false true (read 3 n (omega arith) (omega arith))
   branch-shows true (Fails n) false = line-shows true 3 n false false (read 3 n (omega arith) (omega arith))
-  branch-shows true (Refused k) earlier = tt
+  branch-shows true (Refused x) earlier = tt
 
 -- an `!else`, whose condition does not decide its branch
 else-shows : (reads-body : Bool → List Bool) (reads-end : List Bool) (body : Bool → Meaning) (end : Meaning)
@@ -85,13 +85,13 @@ else-shows rb re body end h k around c earlier = by around c earlier
     by true (Holds n) false = one true 4 n true (read 4 n (omega arith) (omega arith))
     by true (Fails n) true = one true 3 n false (read 3 n (omega arith) (omega arith))
     by true (Fails n) false = one true 4 n true (read 4 n (omega arith) (omega arith))
-    by true (Refused r) earlier = tt
+    by true (Refused x) earlier = tt
 
 closing-shows : (around : Bool) (c : Condition) → Shows (around ∷ []) (closing around c)
 closing-shows false c = unread 2 0 (omega arith)
 closing-shows true (Holds n) = read 5 n (omega arith) (omega arith)
 closing-shows true (Fails n) = read 5 n (omega arith) (omega arith)
-closing-shows true (Refused r) = tt
+closing-shows true (Refused x) = tt
 
 plain-shows : (around : Bool) → Shows (false ∷ []) (single (pick around 1 0) 0)
 plain-shows true = unread 1 0 (omega arith)
@@ -106,7 +106,7 @@ module _ (t : List ℕ) (δ : Dialect) where
     blocks-show (line l bs) around =
         shows-then (false ∷ []) (readsOf t around bs δ) (single (pick around 1 0) 0) (meaning t around bs δ) (plain-shows around) (blocks-show bs around)
     blocks-show (group l body os bs) around =
-        let c : Condition = evaluate t (directiveOf l) (textOf l) δ in
+        let c : Condition = conditionOf t (directiveOf l) l δ in
         let taken : Bool = around && holds c in
         let h = branch-shows (λ b. readsOf t b body δ) (λ b. readsIn t around b os δ) (λ b. meaning t b body δ) (λ b. branches t around b os δ)
         (λ b. blocks-show body b) (λ b. branches-show os around b) around c false in
@@ -117,13 +117,13 @@ module _ (t : List ℕ) (δ : Dialect) where
         rw e (shows-then r (readsOf t around bs δ) m (meaning t around bs δ) h (blocks-show bs around))
 
     branches-show : (os : Branches) (around earlier : Bool) → Shows (readsIn t around earlier os δ) (branches t around earlier os δ)
-    branches-show (endif l) around earlier = closing-shows around (evaluate t Endif (textOf l) δ)
+    branches-show (endif l) around earlier = closing-shows around (conditionOf t Endif l δ)
     branches-show (elseif l body os) around earlier =
         branch-shows (λ b. readsOf t b body δ) (λ b. readsIn t around b os δ) (λ b. meaning t b body δ) (λ b. branches t around b os δ)
-        (λ b. blocks-show body b) (λ b. branches-show os around b) (around && not earlier) (evaluate t Elseif (textOf l) δ) earlier
+        (λ b. blocks-show body b) (λ b. branches-show os around b) (around && not earlier) (conditionOf t Elseif l δ) earlier
     branches-show (else l body e) around earlier =
-        else-shows (λ b. readsOf t b body δ) (around ∷ []) (λ b. meaning t b body δ) (closing around (evaluate t Endif (textOf e) δ))
-        (λ b. blocks-show body b) (closing-shows around (evaluate t Endif (textOf e) δ)) around (evaluate t Else (textOf l) δ) earlier
+        else-shows (λ b. readsOf t b body δ) (around ∷ []) (λ b. meaning t b body δ) (closing around (conditionOf t Endif e δ))
+        (λ b. blocks-show body b) (closing-shows around (conditionOf t Endif e δ)) around (conditionOf t Else l δ) earlier
 
 tells-at : (bs : List Bool) (ms : List ℕ) (i : ℕ) → Tells bs ms → i < length ms
     → ((getD bs i false ≡ true) ↔ Read (getD ms i 0)) × (getD ms i 0 ≤ 5)

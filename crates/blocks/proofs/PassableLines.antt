@@ -9,9 +9,9 @@ use Rattle.units.specs.declared.Dialect.{Dialect}
 use Rattle.text.specs.Bytes.{bytes, classOf}
 use Rattle.text.specs.Runs.{span}
 use Rattle.text.specs.Order.{compared}
-use Rattle.line.specs.Directives.{named, wordStart, textStart, directiveOf, textOf}
+use Rattle.line.specs.Directives.{named, wordStart, textStart, directiveOf}
 use Rattle.line.specs.declared.Directive.the-variants.{Endif}
-use Rattle.condition.specs.Conditions.{idle, evaluate}
+use Rattle.condition.specs.Conditions.{idle, evaluate, conditionOf}
 use Rattle.line.specs.declared.Condition.the-variants.{Holds}
 use Rattle.groups.specs.Groups.{Group, State, state}
 use Rattle.select.specs.Select.{Result, accepted, prepend, run, start}
@@ -48,7 +48,7 @@ pub rest-derives : (ls : List (List ℕ)) (r : Rest 16 [] ls) → Derives ls (r 
 rest-derives ls r = (record { lines = r .lines ∙ rw (r .next, append-nil); words = r .fits }, omega (arith, r .deep))
 
 -- every open group can be ended without a fault
-endif-condition : (t : List ℕ) (δ : Dialect) → evaluate t Endif (textOf (bytes "!endif")) δ ≡ Holds 0
+endif-condition : (t : List ℕ) (δ : Dialect) → conditionOf t Endif (bytes "!endif") δ ≡ Holds 0
 unfolding evaluate idle named wordStart textStart directiveOf span compared classOf
 endif-condition t δ = refl
 

@@ -8,10 +8,11 @@ use mathlib.Core.Bool.{Bool, true, false, not, _&&_, _||_}
 use mathlib.Core.List.{List, [], _∷_, _++_, append-assoc}
 use lib.ListN.{length}
 use Rattle.units.specs.declared.Dialect.{Dialect}
+use Rattle.units.specs.declared.Fault.{Fault}
 use Rattle.text.specs.Bytes.{pick}
-use Rattle.line.specs.Directives.{directiveOf, textOf}
+use Rattle.line.specs.Directives.{directiveOf}
 use Rattle.line.specs.declared.Directive.the-variants.{Elseif, Else, Endif}
-use Rattle.condition.specs.Conditions.{evaluate}
+use Rattle.condition.specs.Conditions.{conditionOf}
 use Rattle.line.specs.declared.Condition.{Condition}
 use Rattle.line.specs.declared.Condition.the-variants.{Holds, Fails, Refused}
 use Rattle.groups.specs.Rules.{nextBranch, plan, settled}
@@ -40,9 +41,9 @@ module _ (t : List ℕ) (δ : Dialect) where
     unfolding run
     run-go m s′ e = rw e
 
-    pub run-stop : (r : ℕ) → step t n s l δ ≡ stop r → run t n s (l ∷ ls) δ ≡ refused r n
+    pub run-stop : (x : Fault) → step t n s l δ ≡ stop x → run t n s (l ∷ ls) δ ≡ refused x n
     unfolding run
-    run-stop r e = rw e
+    run-stop x e = rw e
 
   -- a run over these lines has this meaning, from any line number and count on
   abbrev GoesAs : List Group → List (List ℕ) → Meaning → (ℕ → ℕ → Result) → Type 0
@@ -65,17 +66,17 @@ module _ (t : List ℕ) (δ : Dialect) where
 
   -- an `!endif`
   pub end-goes : (x : Flags) (m : ℕ) (gs : List Group) (l : List ℕ) (ls : List (List ℕ)) → directiveOf l ≡ Endif → length l ≤ 1024
-      → GoesAs (entry x m ∷ gs) (l ∷ ls) (closing (x .around) (evaluate t Endif (textOf l) δ)) (λ n k. run t n (state gs k) ls δ)
+      → GoesAs (entry x m ∷ gs) (l ∷ ls) (closing (x .around) (conditionOf t Endif l δ)) (λ n k. run t n (state gs k) ls δ)
   unfolding plan settled
   end-goes x m gs l ls e h n k =
-      by (x .around) (evaluate t Endif (textOf l) δ) (rw (some-open (entry x m) gs) at (step-word t δ n k (entry x m ∷ gs) l h Endif e))
+      by (x .around) (conditionOf t Endif l δ) (rw (some-open (entry x m) gs) at (step-word t δ n k (entry x m ∷ gs) l h Endif e))
     where
       by : (r : Bool) (c : Condition) → step t n (state (entry x m ∷ gs) k) l δ ≡ planned (pick r Read (Unread (Pop 2))) Endif c n (state (entry x m ∷ gs) k)
           → run t n (state (entry x m ∷ gs) k) (l ∷ ls) δ ≡ follow n k (closing r c) (λ n k. run t n (state gs k) ls δ)
       by false c q = run-go n _ l ls 2 (state gs (k + 0)) q
       by true (Holds j) q = run-go n _ l ls 5 (state gs (k + j)) q
       by true (Fails j) q = run-go n _ l ls 5 (state gs (k + j)) q
-      by true (Refused r) q = run-stop n _ l ls r q ∙ rw add-zero
+      by true (Refused x) q = run-stop n _ l ls x q ∙ rw add-zero
 
   -- inside a group whose `!else` was not seen
   abbrev inside : (k m : ℕ) → List Group → (a e b : Bool) → State
@@ -84,14 +85,14 @@ module _ (t : List ℕ) (δ : Dialect) where
   module _ (n k m : ℕ) (gs : List Group) (l : List ℕ) (a e b : Bool) (short : length l ≤ 1024) where
     inner-elseif : directiveOf l ≡ Elseif
         → step t n (inside k m gs a e b) l δ
-        ≡ planned (pick (a && not (e || b)) Read (Unread (Replace 2 (nextBranch (flagged a e b false) false false)))) Elseif (evaluate t Elseif (textOf l) δ) n
+        ≡ planned (pick (a && not (e || b)) Read (Unread (Replace 2 (nextBranch (flagged a e b false) false false)))) Elseif (conditionOf t Elseif l δ) n
         (inside k m gs a e b)
     unfolding plan
     inner-elseif w = let g = entry (flagged a e b false) m in rw (some-open g gs) at (step-word t δ n k (g ∷ gs) l short Elseif w)
 
     inner-else : directiveOf l ≡ Else
         → step t n (inside k m gs a e b) l δ
-        ≡ planned (pick a Read (Unread (Replace 2 (nextBranch (flagged a e b false) false true)))) Else (evaluate t Else (textOf l) δ) n (inside k m gs a e b)
+        ≡ planned (pick a Read (Unread (Replace 2 (nextBranch (flagged a e b false) false true)))) Else (conditionOf t Else l δ) n (inside k m gs a e b)
     unfolding plan
     inner-else w = let g = entry (flagged a e b false) m in rw (some-open g gs) at (step-word t δ n k (g ∷ gs) l short Else w)
 
@@ -105,8 +106,8 @@ module _ (t : List ℕ) (δ : Dialect) where
       to a e b mark j q =
           branch-goes n k from l body behind (rest a (e || b)) f (entry (flagged a e b last) m ∷ gs) mark j q (goes (flagged a e b last)) (then-goes a e b)
 
-      at : (r : ℕ) → step t n from l δ ≡ stop r → run t n from (l ∷ (linesOf body ++ behind)) δ ≡ follow n k (fault r 0) f
-      at r q = run-stop n from l (linesOf body ++ behind) r q ∙ rw add-zero
+      at : (x : Fault) → step t n from l δ ≡ stop x → run t n from (l ∷ (linesOf body ++ behind)) δ ≡ follow n k (fault x 0) f
+      at x q = run-stop n from l (linesOf body ++ behind) x q ∙ rw add-zero
 
     module _ (rest : Bool → Bool → Meaning) (n k : ℕ) (goes : (x : Flags) → BodyGoes (entry x n ∷ gs) body)
         (then-goes : (a e b : Bool) → GoesAs (entry (flagged a e b false) n ∷ gs) behind (rest a (e || b)) f) where
@@ -115,7 +116,7 @@ module _ (t : List ℕ) (δ : Dialect) where
       opening-goes false c q = to rest n k n false goes then-goes (state gs k) false false false 2 0 q
       opening-goes true (Holds j) q = to rest n k n false goes then-goes (state gs k) true false true 4 j q
       opening-goes true (Fails j) q = to rest n k n false goes then-goes (state gs k) true false false 3 j q
-      opening-goes true (Refused r) q = at rest n k n false goes then-goes (state gs k) r q
+      opening-goes true (Refused x) q = at rest n k n false goes then-goes (state gs k) x q
 
     module _ (rest : Bool → Bool → Meaning) (n k m : ℕ) (goes : (x : Flags) → BodyGoes (entry x m ∷ gs) body)
         (then-goes : (a e b : Bool) → GoesAs (entry (flagged a e b false) m ∷ gs) behind (rest a (e || b)) f) where
@@ -132,7 +133,7 @@ module _ (t : List ℕ) (δ : Dialect) where
       elseif-goes true false true c q = to rest n k m false goes then-goes (inside k m gs true false true) true true false 2 0 q
       elseif-goes true false false (Holds j) q = to rest n k m false goes then-goes (inside k m gs true false false) true false true 4 j q
       elseif-goes true false false (Fails j) q = to rest n k m false goes then-goes (inside k m gs true false false) true false false 3 j q
-      elseif-goes true false false (Refused r) q = at rest n k m false goes then-goes (inside k m gs true false false) r q
+      elseif-goes true false false (Refused x) q = at rest n k m false goes then-goes (inside k m gs true false false) x q
 
     module _ (rest : Bool → Bool → Meaning) (n k m : ℕ) (goes : (x : Flags) → BodyGoes (entry x m ∷ gs) body)
         (then-goes : (a e b : Bool) → GoesAs (entry (flagged a e b true) m ∷ gs) behind (rest a (e || b)) f) where
@@ -147,13 +148,13 @@ module _ (t : List ℕ) (δ : Dialect) where
       else-goes false false false c q = to rest n k m true goes then-goes (inside k m gs false false false) false false false 2 0 q
       else-goes true true b (Holds j) q = to rest n k m true goes then-goes (inside k m gs true true b) true true false 3 j q
       else-goes true true b (Fails j) q = to rest n k m true goes then-goes (inside k m gs true true b) true true false 3 j q
-      else-goes true true b (Refused r) q = at rest n k m true goes then-goes (inside k m gs true true b) r q
+      else-goes true true b (Refused x) q = at rest n k m true goes then-goes (inside k m gs true true b) x q
       else-goes true false true (Holds j) q = to rest n k m true goes then-goes (inside k m gs true false true) true true false 3 j q
       else-goes true false true (Fails j) q = to rest n k m true goes then-goes (inside k m gs true false true) true true false 3 j q
-      else-goes true false true (Refused r) q = at rest n k m true goes then-goes (inside k m gs true false true) r q
+      else-goes true false true (Refused x) q = at rest n k m true goes then-goes (inside k m gs true false true) x q
       else-goes true false false (Holds j) q = to rest n k m true goes then-goes (inside k m gs true false false) true false true 4 j q
       else-goes true false false (Fails j) q = to rest n k m true goes then-goes (inside k m gs true false false) true false true 4 j q
-      else-goes true false false (Refused r) q = at rest n k m true goes then-goes (inside k m gs true false false) r q
+      else-goes true false false (Refused x) q = at rest n k m true goes then-goes (inside k m gs true false false) x q
 
   -- blocks, and the branches of a group
   mutual
@@ -168,14 +169,14 @@ module _ (t : List ℕ) (δ : Dialect) where
     blocks-go (group l body os bs) w h gs d ls n k =
         let f : ℕ → ℕ → Result = λ n k. run t n (state gs k) (linesOf bs ++ ls) δ in
         let v =
-        branch (live gs) (evaluate t (directiveOf l) (textOf l) δ) false (λ b. meaning t b body δ)
+        branch (live gs) (conditionOf t (directiveOf l) l δ) false (λ b. meaning t b body δ)
         (λ taken. branches t (live gs) taken os δ) in
         rw (append-assoc, append-assoc)
         (opening-goes l body (linesIn os ++ (linesOf bs ++ ls)) gs f (λ a taken. branches t a taken os δ) n k
         (λ x ls n′ k′. blocks-go body (w .1) (limit-left (linesOf body) (linesIn os ++ linesOf bs) (h .1)) (entry x n ∷ gs) (omega arith) ls n′ k′)
         (λ a e b n′ k′. branches-go os (w .2) (limit-left (linesIn os) (linesOf bs) (limit-right (linesOf body) (linesIn os ++ linesOf bs) (h .1))) a e b n gs
         (omega arith) (linesOf bs ++ ls) n′ k′)
-        (live gs) (evaluate t (directiveOf l) (textOf l) δ) (opening-step t δ n k gs l (h .0) (w .0) (omega arith)))
+        (live gs) (conditionOf t (directiveOf l) l δ) (opening-step t δ n k gs l (h .0) (w .0) (omega arith)))
         ∙ follow-ext n k v f _
         (λ n k. blocks-go bs (w .3) (limit-right (linesIn os) (linesOf bs) (limit-right (linesOf body) (linesIn os ++ linesOf bs) (h .1))) gs
         (omega arith) ls n k)
@@ -190,10 +191,10 @@ module _ (t : List ℕ) (δ : Dialect) where
         (elseif-goes l body (linesIn os ++ ls) gs (λ n k. run t n (state gs k) ls δ) (λ a taken. branches t a taken os δ) n k m
         (λ x ls n′ k′. blocks-go body (w .1) (limit-left (linesOf body) (linesIn os) (h .1)) (entry x m ∷ gs) (omega arith) ls n′ k′)
         (λ a e b n′ k′. branches-go os (w .2) (limit-right (linesOf body) (linesIn os) (h .1)) a e b m gs (omega arith) ls n′ k′)
-        a e b (evaluate t Elseif (textOf l) δ) (inner-elseif n k m gs l a e b (h .0) (w .0)))
+        a e b (conditionOf t Elseif l δ) (inner-elseif n k m gs l a e b (h .0) (w .0)))
     branches-go (else l body last) w h a e b m gs d ls n k =
         rw append-assoc
-        (else-goes l body (last ∷ ls) gs (λ n k. run t n (state gs k) ls δ) (λ a taken. closing a (evaluate t Endif (textOf last) δ)) n k m
+        (else-goes l body (last ∷ ls) gs (λ n k. run t n (state gs k) ls δ) (λ a taken. closing a (conditionOf t Endif last δ)) n k m
         (λ x ls n′ k′. blocks-go body (w .1) (limit-left (linesOf body) (last ∷ []) (h .1)) (entry x m ∷ gs) (omega arith) ls n′ k′)
         (λ a e b. end-goes (flagged a e b true) m gs last ls (w .2) (limit-right (linesOf body) (last ∷ []) (h .1) .0))
-        a e b (evaluate t Else (textOf l) δ) (inner-else n k m gs l a e b (h .0) (w .0)))
+        a e b (conditionOf t Else l δ) (inner-else n k m gs l a e b (h .0) (w .0)))

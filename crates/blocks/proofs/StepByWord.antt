@@ -9,10 +9,10 @@ use lib.Dec.{eqb}
 use borrow.Author.Tests.{lt-leb, ne-eqb}
 use Rattle.units.specs.declared.Dialect.{Dialect}
 use Rattle.text.specs.Bytes.{pick}
-use Rattle.line.specs.Directives.{directiveOf, textOf}
+use Rattle.line.specs.Directives.{directiveOf}
 use Rattle.line.specs.declared.Directive.{Directive}
 use Rattle.line.specs.declared.Directive.the-variants.{Plain, If, Ifdef, Ifndef, Elseif, Else, Endif, Unknown}
-use Rattle.condition.specs.Conditions.{evaluate}
+use Rattle.condition.specs.Conditions.{conditionOf}
 use Rattle.line.specs.declared.Condition.{Condition}
 use Rattle.line.specs.declared.Condition.the-variants.{Holds, Fails, Refused}
 use Rattle.groups.specs.Rules.{MAX-GROUPS, firstBranch, opening, plan, settled}
@@ -44,7 +44,7 @@ abbrev pub begun : Bool → Condition → (n k : ℕ) → List Group → Outcome
 begun false c n k gs = go 2 (state (group (firstBranch false false) n ∷ gs) (k + 0))
 begun true (Holds j) n k gs = go 4 (state (group (firstBranch true true) n ∷ gs) (k + j))
 begun true (Fails j) n k gs = go 3 (state (group (firstBranch true false) n ∷ gs) (k + j))
-begun true (Refused r) n k gs = stop r
+begun true (Refused x) n k gs = stop x
 
 -- the words that open a group have the same rules
 pub opens-alike : (d : Directive) → opens d ≡ true → (R : Directive → Type 0) → R If → R Ifdef → R Ifndef → R d
@@ -72,14 +72,14 @@ module _ (d : Directive) (o : opens d ≡ true) (n k : ℕ) (gs : List Group) wh
   planned-begun false c = refl
   planned-begun true (Holds j) = rw (opens-settled d o (innermost gs .flags) true)
   planned-begun true (Fails j) = rw (opens-settled d o (innermost gs .flags) false)
-  planned-begun true (Refused r) = refl
+  planned-begun true (Refused x) = refl
 
   decided-begun : (c : Condition) → length gs < 16 → decided d c n (state gs k) ≡ begun (live gs) c n k gs
   decided-begun c h = rw (opens-plan d o gs, depth-length gs, lt-leb MAX-GROUPS (length gs) h) (planned-begun (live gs) c)
 
 module _ (t : List ℕ) (δ : Dialect) (n k : ℕ) (gs : List Group) (l : List ℕ) (short : length l ≤ 1024) where
   -- a step over a given word
-  pub step-word : (d : Directive) → directiveOf l ≡ d → step t n (state gs k) l δ ≡ decided d (evaluate t d (textOf l) δ) n (state gs k)
+  pub step-word : (d : Directive) → directiveOf l ≡ d → step t n (state gs k) l δ ≡ decided d (conditionOf t d l δ) n (state gs k)
   step-word d e = decided-step t δ n (state gs k) l short ∙ rw e
 
   pub plain-step : directiveOf l ≡ Plain → step t n (state gs k) l δ ≡ go (pick (live gs) 1 0) (state gs (k + 0))
@@ -87,5 +87,5 @@ module _ (t : List ℕ) (δ : Dialect) (n k : ℕ) (gs : List Group) (l : List �
   plain-step e = step-word Plain e
 
   pub opening-step : opens (directiveOf l) ≡ true → length gs < 16
-      → step t n (state gs k) l δ ≡ begun (live gs) (evaluate t (directiveOf l) (textOf l) δ) n k gs
-  opening-step o h = step-word (directiveOf l) refl ∙ decided-begun (directiveOf l) o n k gs (evaluate t (directiveOf l) (textOf l) δ) h
+      → step t n (state gs k) l δ ≡ begun (live gs) (conditionOf t (directiveOf l) l δ) n k gs
+  opening-step o h = step-word (directiveOf l) refl ∙ decided-begun (directiveOf l) o n k gs (conditionOf t (directiveOf l) l δ) h

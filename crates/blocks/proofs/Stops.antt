@@ -7,6 +7,7 @@ use mathlib.Core.Logic.{_⊎_, inl, inr}
 use mathlib.Core.List.{List, [], _∷_, _++_}
 use lib.ListN.{length}
 use Rattle.units.specs.declared.Dialect.{Dialect}
+use Rattle.units.specs.declared.Fault.{Fault}
 use Rattle.groups.specs.Groups.{State, Outcome, go, stop}
 use Rattle.select.specs.Step.{step}
 use Rattle.select.specs.Select.{Result, accepted, refused, prepend, atEnd, after, run}
@@ -15,7 +16,7 @@ use Rattle.blocks.proofs.Passing.{Passes}
 use Rattle.blocks.proofs.Continuation.{onto}
 use Rattle.blocks.proofs.RunMeaning.{run-go}
 
-pub record Stopped (t : List ℕ) (δ : Dialect) (n : ℕ) (s : State) (ls : List (List ℕ)) (r m : ℕ) : Type 0 where
+pub record Stopped (t : List ℕ) (δ : Dialect) (n : ℕ) (s : State) (ls : List (List ℕ)) (x : Fault) (m : ℕ) : Type 0 where
   pub before : List (List ℕ)
   pub at : List ℕ
   pub rest : List (List ℕ)
@@ -23,19 +24,19 @@ pub record Stopped (t : List ℕ) (δ : Dialect) (n : ℕ) (s : State) (ls : Lis
   pub number : m ≡ n + length before
   pub state : State
   pub passes : Passes t δ n s before state
-  pub stops : step t m state at δ ≡ stop r
+  pub stops : step t m state at δ ≡ stop x
 
-pub record Ended (t : List ℕ) (δ : Dialect) (n : ℕ) (s : State) (ls : List (List ℕ)) (r m : ℕ) : Type 0 where
+pub record Ended (t : List ℕ) (δ : Dialect) (n : ℕ) (s : State) (ls : List (List ℕ)) (x : Fault) (m : ℕ) : Type 0 where
   pub state : State
   pub passes : Passes t δ n s ls state
-  pub unclosed : atEnd (state .groups) (state .count) ≡ refused r m
+  pub unclosed : atEnd (state .groups) (state .count) ≡ refused x m
 
 module _ (t : List ℕ) (δ : Dialect) where
   -- after one line that was passed
-  later : (l : List ℕ) (ls : List (List ℕ)) (n : ℕ) (s : State) (r m k : ℕ) (s′ : State) → step t n s l δ ≡ go k s′
-      → Stopped t δ (n + 1) s′ ls r m ⊎ Ended t δ (n + 1) s′ ls r m
-      → Stopped t δ n s (l ∷ ls) r m ⊎ Ended t δ n s (l ∷ ls) r m
-  later l ls n s r m k s′ q (inl w) =
+  later : (l : List ℕ) (ls : List (List ℕ)) (n : ℕ) (s : State) (x : Fault) (m k : ℕ) (s′ : State) → step t n s l δ ≡ go k s′
+      → Stopped t δ (n + 1) s′ ls x m ⊎ Ended t δ (n + 1) s′ ls x m
+      → Stopped t δ n s (l ∷ ls) x m ⊎ Ended t δ n s (l ∷ ls) x m
+  later l ls n s x m k s′ q (inl w) =
       let v = w .number in
       inl (record {
         before = l ∷ w .before;
@@ -47,24 +48,25 @@ module _ (t : List ℕ) (δ : Dialect) where
         passes = (k, s′, q, w .passes);
         stops = w .stops;
       })
-  later l ls n s r m k s′ q (inr w) = inr (record { state = w .state; passes = (k, s′, q, w .passes); unclosed = w .unclosed })
+  later l ls n s x m k s′ q (inr w) = inr (record { state = w .state; passes = (k, s′, q, w .passes); unclosed = w .unclosed })
 
-  pub refused-where : (ls : List (List ℕ)) (n : ℕ) (s : State) (r m : ℕ) → run t n s ls δ ≡ refused r m → Stopped t δ n s ls r m ⊎ Ended t δ n s ls r m
+  pub refused-where : (ls : List (List ℕ)) (n : ℕ) (s : State) (x : Fault) (m : ℕ) → run t n s ls δ ≡ refused x m
+      → Stopped t δ n s ls x m ⊎ Ended t δ n s ls x m
   unfolding run
-  refused-where [] n s r m e = inr (record { state = s; passes = refl; unclosed = e })
-  refused-where (l ∷ ls) n s r m e = by (step t n s l δ) refl e (λ s′. refused-where ls (n + 1) s′ r m)
+  refused-where [] n s x m e = inr (record { state = s; passes = refl; unclosed = e })
+  refused-where (l ∷ ls) n s x m e = by (step t n s l δ) refl e (λ s′. refused-where ls (n + 1) s′ x m)
     where
-      on : (k : ℕ) (s′ : State) → step t n s l δ ≡ go k s′ → (z : Result) → run t (n + 1) s′ ls δ ≡ z → prepend k z ≡ refused r m
-          → (run t (n + 1) s′ ls δ ≡ refused r m → Stopped t δ (n + 1) s′ ls r m ⊎ Ended t δ (n + 1) s′ ls r m)
-          → Stopped t δ n s (l ∷ ls) r m ⊎ Ended t δ n s (l ∷ ls) r m
+      on : (k : ℕ) (s′ : State) → step t n s l δ ≡ go k s′ → (z : Result) → run t (n + 1) s′ ls δ ≡ z → prepend k z ≡ refused x m
+          → (run t (n + 1) s′ ls δ ≡ refused x m → Stopped t δ (n + 1) s′ ls x m ⊎ Ended t δ (n + 1) s′ ls x m)
+          → Stopped t δ n s (l ∷ ls) x m ⊎ Ended t δ n s (l ∷ ls) x m
       on k s′ q (accepted ms c) p e ih = let z : _≡_ {A = ℕ} 0 1 = cc in absurd (omega arith)
-      on k s′ q (refused a b) p e ih = later l ls n s r m k s′ q (ih (p ∙ e))
+      on k s′ q (refused a b) p e ih = later l ls n s x m k s′ q (ih (p ∙ e))
 
-      by : (o : Outcome) → step t n s l δ ≡ o → after o n (λ s′. run t (n + 1) s′ ls δ) ≡ refused r m
-          → ((s′ : State) → run t (n + 1) s′ ls δ ≡ refused r m → Stopped t δ (n + 1) s′ ls r m ⊎ Ended t δ (n + 1) s′ ls r m)
-          → Stopped t δ n s (l ∷ ls) r m ⊎ Ended t δ n s (l ∷ ls) r m
-      by (stop k) q e ih =
-          let a : k ≡ r = cc in
+      by : (o : Outcome) → step t n s l δ ≡ o → after o n (λ s′. run t (n + 1) s′ ls δ) ≡ refused x m
+          → ((s′ : State) → run t (n + 1) s′ ls δ ≡ refused x m → Stopped t δ (n + 1) s′ ls x m ⊎ Ended t δ (n + 1) s′ ls x m)
+          → Stopped t δ n s (l ∷ ls) x m ⊎ Ended t δ n s (l ∷ ls) x m
+      by (stop y) q e ih =
+          let a : y ≡ x = cc in
           let b : m ≡ n = cc in
           inl (record { before = []; at = l; rest = ls; lines = refl; number = omega (arith, b); state = s; passes = refl; stops = rw b (q ∙ ap stop a) })
       by (go k s′) q e ih = on k s′ q (run t (n + 1) s′ ls δ) refl e (ih s′)

@@ -6,7 +6,8 @@ use mathlib.Core.Bool.{Bool, true, false}
 use mathlib.Core.List.{List, [], _∷_, _++_, append-assoc, append-nil}
 use lib.ListN.{length}
 use Rattle.units.specs.declared.Dialect.{Dialect}
-use Rattle.line.specs.Directives.{directiveOf, textOf}
+use Rattle.units.specs.Refusals.{unplaced}
+use Rattle.line.specs.Directives.{directiveOf}
 use Rattle.line.specs.declared.Directive.{Directive}
 use Rattle.line.specs.declared.Directive.the-variants.{Plain, If, Ifdef, Ifndef, Elseif, Else, Endif, Unknown}
 use Rattle.line.specs.declared.Condition.{Condition}
@@ -59,8 +60,8 @@ moves-can leave = tt
 -- any other line is refused with 19, for any condition
 module _ (c : Condition) (n k : ℕ) (R : Type 0) where
   before-else : (d : Directive) (g : Group) (gs : List Group) → (hs : List Bool) → Moves d (false ∷ flags gs) hs
-      → (g .flags .last ≡ true → decided d c n (state (g ∷ gs) k) ≡ stop 19)
-      → ((hs : List Bool) → Moves d (flags (g ∷ gs)) hs → R) → (decided d c n (state (g ∷ gs) k) ≡ stop 19 → R) → R
+      → (g .flags .last ≡ true → decided d c n (state (g ∷ gs) k) ≡ stop (unplaced 19))
+      → ((hs : List Bool) → Moves d (flags (g ∷ gs)) hs → R) → (decided d c n (state (g ∷ gs) k) ≡ stop (unplaced 19) → R) → R
   before-else d g gs hs v s f h = by (g .flags .last) refl
     where
       by : (b : Bool) → g .flags .last ≡ b → R
@@ -68,7 +69,7 @@ module _ (c : Condition) (n k : ℕ) (R : Type 0) where
       by false e = f hs (rw e v)
 
   pub move-or-stray : (d : Directive) → (d ≡ Unknown → ⊥) → (gs : List Group) → ((hs : List Bool) → Moves d (flags gs) hs → R)
-      → (decided d c n (state gs k) ≡ stop 19 → R) → R
+      → (decided d c n (state gs k) ≡ stop (unplaced 19) → R) → R
   unfolding plan
   move-or-stray Plain u gs f g = f (flags gs) stay
   move-or-stray If u gs f g = f (false ∷ flags gs) (enter refl)
@@ -99,14 +100,14 @@ module _ (t : List ℕ) (δ : Dialect) (ls : List (List ℕ)) (s : State) (p : P
   moves-begins l gs m = walk-begins (ls ++ (l ∷ [])) gs (walk-append ls (l ∷ []) [] (flags (s .groups)) gs walked (gs, m, refl))
 
   module _ (n : ℕ) (l : List ℕ) (short : length l ≤ 1024) where
-    pub not-both : step t n s l δ ≡ stop 19 → Begins (ls ++ (l ∷ [])) → ⊥
+    pub not-both : step t n s l δ ≡ stop (unplaced 19) → Begins (ls ++ (l ∷ [])) → ⊥
     not-both e b =
         let m = begins-moves l b in
         let f = decided-moves (directiveOf l) (said t δ n s l) n (s .count) (s .groups) in
-        let g : Moving (said t δ n s l) (directiveOf l) n (s .groups) (stop 19) = rw (sym (decided-step t δ n s l short) ∙ e) at f in
-        g (never-own t δ (directiveOf l) (textOf l) 19 (omega arith) (omega arith)) (moves-can (m .1)) refl
+        let g : Moving (said t δ n s l) (directiveOf l) n (s .groups) (stop (unplaced 19)) = rw (sym (decided-step t δ n s l short) ∙ e) at f in
+        g (never-own t δ (directiveOf l) l 19 (omega arith) (omega arith)) (moves-can (m .1)) refl
 
-    pub refuses : (directiveOf l ≡ Unknown → ⊥) → (Begins (ls ++ (l ∷ [])) → ⊥) → step t n s l δ ≡ stop 19
+    pub refuses : (directiveOf l ≡ Unknown → ⊥) → (Begins (ls ++ (l ∷ [])) → ⊥) → step t n s l δ ≡ stop (unplaced 19)
     refuses known h =
         decided-step t δ n s l short
         ∙ move-or-stray (said t δ n s l) n (s .count) _ (directiveOf l) known (s .groups) (λ gs m. absurd (h (moves-begins l gs m))) (λ e. e)

@@ -8,7 +8,7 @@ use mathlib.Core.List.{List}
 use lib.ListN.{drop}
 use lib.Dec.{eqb}
 use borrow.Author.Tests.{le-leb, lt-leb, ne-eqb}
-use Rattle.units.specs.Refusals.{EXPRESSION-LONG, BAR-OUTSIDE, DIVISOR-ZERO, CONDITION-VALUE, TEXT-MALFORMED}
+use Rattle.units.specs.Refusals.{EXPRESSION-LONG, BAR-OUTSIDE, DIVISOR-ZERO, CONDITION-VALUE, TEXT-MALFORMED, faultAt, unplaced}
 use Rattle.units.specs.Dialects.{inDirectives}
 use Rattle.units.specs.declared.Dialect.{Dialect}
 use Rattle.text.specs.Bytes.{pick}
@@ -19,9 +19,11 @@ use Rattle.value.specs.Places.{over}
 use Rattle.value.specs.Values.{number, text, fault}
 use Rattle.evaluation.specs.Evaluation.{Evaluation, value, refused, evaluationIn}
 use Rattle.answers.proofs.RefusalNumbers.{fromExpression, InAnswer, in-answer}
+use Rattle.line.specs.Directives.{textStart, textOf}
 use Rattle.line.specs.declared.Directive.{Directive}
 use Rattle.line.specs.declared.Directive.the-variants.{Plain, If, Ifdef, Ifndef, Elseif, Else, Endif, Unknown}
 use Rattle.condition.specs.Conditions.{spaced, idle, ofAnswer, ofExpression, nameAt, alone, present, ofNamed, ofMacro, evaluate}
+use Rattle.condition.specs.Conditions.{inLine, conditionOf}
 use Rattle.line.specs.declared.Condition.{Condition}
 use Rattle.line.specs.declared.Condition.the-variants.{Holds, Fails, Refused}
 use Rattle.condition.specs.declared.macros.Named.{Named}
@@ -43,7 +45,7 @@ not-of-bars r h e = let z : fromText BAR-OUTSIDE ≡ true = rw e at h in false�
 abbrev pub InCondition : Condition → Type 0
 InCondition (Holds n) = Unit
 InCondition (Fails n) = Unit
-InCondition (Refused r) = fromText r ≡ true
+InCondition (Refused x) = fromText (x .number) ≡ true
 
 of-answer : (x : Evaluation) → InAnswer x → InCondition (ofAnswer x)
 unfolding ofAnswer
@@ -70,7 +72,7 @@ in-name t δ wanted s =
     let m = drop (span Blanks s) s in
     pick-case InCondition (spaced s) (λ _. in-named t wanted m (nameAt m δ)) (λ _. refl)
 
-in-nothing : (s : List ℕ) → InCondition (pick (idle s) (Holds 0) (Refused 22))
+in-nothing : (s : List ℕ) → InCondition (pick (idle s) (Holds 0) (Refused (unplaced 22)))
 in-nothing s = pick-case InCondition (idle s) (λ _. tt) (λ _. refl)
 
 pub in-condition : (t : List ℕ) (δ : Dialect) (d : Directive) (s : List ℕ) → InCondition (evaluate t d s δ)
@@ -84,12 +86,20 @@ in-condition t δ Else s = in-nothing s
 in-condition t δ Endif s = in-nothing s
 in-condition t δ Unknown s = tt
 
-numbered : (t : List ℕ) (δ : Dialect) (d : Directive) (s : List ℕ) (r : ℕ) → evaluate t d s δ ≡ Refused r → fromText r ≡ true
-numbered t δ d s r e = let h : InCondition (Refused r) = rw e at (in-condition t δ d s) in h
+-- the place in the line does not change the number
+in-place : (p : ℕ) (c : Condition) → InCondition c → InCondition (inLine p c)
+in-place p (Holds n) h = tt
+in-place p (Fails n) h = tt
+in-place p (Refused x) h = h
 
-pub never-own : (t : List ℕ) (δ : Dialect) (d : Directive) (s : List ℕ) (r : ℕ) → 17 ≤ r → r ≤ 21 → evaluate t d s δ ≡ Refused r → ⊥
-never-own t δ d s r a b e = not-of-lines r (numbered t δ d s r e) a b
+pub in-line : (t : List ℕ) (δ : Dialect) (d : Directive) (l : List ℕ) → InCondition (conditionOf t d l δ)
+in-line t δ d l = in-place (textStart l) (evaluate t d (textOf l) δ) (in-condition t δ d (textOf l))
+
+pub never-own : (t : List ℕ) (δ : Dialect) (d : Directive) (l : List ℕ) (r : ℕ) → 17 ≤ r → r ≤ 21 → conditionOf t d l δ ≡ Refused (unplaced r) → ⊥
+never-own t δ d l r a b e = let h : InCondition (Refused (unplaced r)) = rw e at (in-line t δ d l) in not-of-lines r h a b
 
 -- no directive is refused for a bar
-pub never-bar : (t : List ℕ) (d : Directive) (s : List ℕ) (δ : Dialect) → evaluate t d s δ ≡ Refused BAR-OUTSIDE → ⊥
-never-bar t d s δ e = not-of-bars BAR-OUTSIDE (numbered t δ d s BAR-OUTSIDE e) refl
+pub never-bar : (t : List ℕ) (d : Directive) (s : List ℕ) (δ : Dialect) (o : ℕ) → evaluate t d s δ ≡ Refused (faultAt BAR-OUTSIDE o) → ⊥
+never-bar t d s δ o e =
+    let h : InCondition (Refused (faultAt BAR-OUTSIDE o)) = rw e at (in-condition t δ d s) in
+    not-of-bars BAR-OUTSIDE h refl

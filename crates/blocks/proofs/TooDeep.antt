@@ -8,7 +8,8 @@ use lib.ListN.{length}
 use lib.Dec.{leb}
 use borrow.Author.Tests.{le-leb, leb-true, leb-false}
 use Rattle.units.specs.declared.Dialect.{Dialect}
-use Rattle.line.specs.Directives.{directiveOf, textOf}
+use Rattle.units.specs.Refusals.{unplaced}
+use Rattle.line.specs.Directives.{directiveOf}
 use Rattle.line.specs.declared.Directive.{Directive}
 use Rattle.line.specs.declared.Condition.{Condition}
 use Rattle.line.specs.declared.Condition.the-variants.{Holds, Fails, Refused}
@@ -32,10 +33,10 @@ use Rattle.blocks.proofs.OneInnermost.{along}
 -- with 16 groups open a further one is refused with 20; with fewer it is not
 abbrev Fuller : Condition → List Group → Outcome → Type 0
 Fuller c gs (go m s) = Unit
-Fuller c gs (stop r) = (c ≡ Refused 20 → ⊥) → r ≡ 20 → 16 ≤ length gs
+Fuller c gs (stop x) = (c ≡ Refused (unplaced 20) → ⊥) → x ≡ unplaced 20 → 16 ≤ length gs
 
 module _ (d : Directive) (o : opens d ≡ true) (n k : ℕ) (gs : List Group) where
-  pub full : (c : Condition) → 16 ≤ length gs → decided d c n (state gs k) ≡ stop 20
+  pub full : (c : Condition) → 16 ≤ length gs → decided d c n (state gs k) ≡ stop (unplaced 20)
   full c h = rw (opens-plan d o gs, depth-length gs, le-leb MAX-GROUPS (length gs) h)
 
   decided-fuller : (c : Condition) → Fuller c gs (decided d c n (state gs k))
@@ -46,11 +47,11 @@ module _ (d : Directive) (o : opens d ≡ true) (n k : ℕ) (gs : List Group) wh
       read c b j = rw (opens-settled d o (innermost gs .flags) b) tt
 
       by : (a : Bool) → leb MAX-GROUPS (length gs) ≡ a → (b : Bool) (c : Condition)
-          → Fuller c gs (planned (pick a (Unread (Refuse 20)) (pick b Read (Unread (Push UNREAD (firstBranch false false))))) d c n (state gs k))
+          → Fuller c gs (planned (pick a (Unread (Refuse (unplaced 20))) (pick b Read (Unread (Push UNREAD (firstBranch false false))))) d c n (state gs k))
       by true e b c = λ w z. leb-true MAX-GROUPS (length gs) e
       by false e true (Holds j) = read (Holds j) true j
       by false e true (Fails j) = read (Fails j) false j
-      by false e true (Refused r) = λ w z. absurd (w (ap Refused z))
+      by false e true (Refused x) = λ w z. absurd (w (ap Refused z))
       by false e false c = tt
 
 module _ (t : List ℕ) (δ : Dialect) (ls : List (List ℕ)) (s : State) (p : Passes t δ 1 start ls s) (n : ℕ) (l : List ℕ) (short : length l ≤ 1024)
@@ -58,16 +59,16 @@ module _ (t : List ℕ) (δ : Dialect) (ls : List (List ℕ)) (s : State) (p : P
   abbrev c : Condition
   c = said t δ n s l
 
-  pub deeper : step t n s l δ ≡ stop 20 → (more : List (List ℕ)) (bs : Blocks) → Derives (ls ++ (l ∷ more)) bs → 16 < depth bs
+  pub deeper : step t n s l δ ≡ stop (unplaced 20) → (more : List (List ℕ)) (bs : Blocks) → Derives (ls ++ (l ∷ more)) bs → 16 < depth bs
   deeper e more bs d =
       let f = decided-fuller (directiveOf l) o n (s .count) (s .groups) c in
-      let g : Fuller c (s .groups) (stop 20) = rw (sym (decided-step t δ n s l short) ∙ e) at f in
-      let h = g (never-own t δ (directiveOf l) (textOf l) 20 (omega arith) (omega arith)) refl in
+      let g : Fuller c (s .groups) (stop (unplaced 20)) = rw (sym (decided-step t δ n s l short) ∙ e) at f in
+      let h = g (never-own t δ (directiveOf l) l 20 (omega arith) (omega arith)) refl in
       let r = walk-ahead (depth bs) ls [] (flags (s .groups)) (l ∷ more) (passes-walk t δ ls 1 start s p) (whole-rest _ bs d) in
       let q = along (depth bs) l more (directiveOf l) (flags (s .groups)) (false ∷ flags (s .groups)) refl (enter o) r in
       omega (arith, q .deep, flags-length (s .groups))
 
-  pub refused-deep : ((more : List (List ℕ)) (bs : Blocks) → Derives (ls ++ (l ∷ more)) bs → 16 < depth bs) → step t n s l δ ≡ stop 20
+  pub refused-deep : ((more : List (List ℕ)) (bs : Blocks) → Derives (ls ++ (l ∷ more)) bs → 16 < depth bs) → step t n s l δ ≡ stop (unplaced 20)
   refused-deep h = decided-step t δ n s l short ∙ full (directiveOf l) o n (s .count) (s .groups) c (by (leb 16 (length (s .groups))) refl)
     where
       by : (b : Bool) → leb 16 (length (s .groups)) ≡ b → 16 ≤ length (s .groups)

@@ -6,6 +6,7 @@ use mathlib.Core.Bool.{Bool, true, false}
 use mathlib.Core.List.{List, [], _∷_, _++_, append-assoc, append-nil}
 use lib.ListN.{length, length-append, drop}
 use Rattle.units.specs.declared.Dialect.{Dialect}
+use Rattle.units.specs.Refusals.{unplaced}
 use Rattle.line.specs.Directives.{directiveOf}
 use Rattle.line.specs.declared.Directive.{Directive}
 use Rattle.line.specs.declared.Directive.the-variants.{Endif}
@@ -175,7 +176,7 @@ unfinished t δ ls s p = by (s .groups) refl (passes-run t δ ls 1 start s p) (p
     by : (gs : List Group) → s .groups ≡ gs → ((ms : List ℕ) × (run t 1 start ls δ ≡ onto ms (atEnd (s .groups) (s .count))))
         → Walk [] ls (flags (s .groups)) → Opened (flags (s .groups)) (starts (s .groups)) ls
         → (Whole ls → (ms : List ℕ) × (run t 1 start ls δ ≡ accepted ms (s .count)))
-        × ((Whole ls → ⊥) → (m : ℕ) × Innermost ls m × (run t 1 start ls δ ≡ refused 21 m))
+        × ((Whole ls → ⊥) → (m : ℕ) × Innermost ls m × (run t 1 start ls δ ≡ refused (unplaced 21) m))
     by [] e r w o = (
       λ _. (r .0 ++ [], r .1 ∙ rw e (onto-accepted (r .0) [] (s .count))),
       λ h. absurd (h (rest-whole (length ls) ls (rw append-nil at (walk-back (length ls) ls [] [] [] (omega arith) (rw e at w) (nothing-left (length ls)))))),
@@ -186,6 +187,6 @@ unfinished t δ ls s p = by (s .groups) refl (passes-run t δ ls 1 start s p) (p
       λ h. (
         g .line,
         innermost (g .flags .last) (g .line) (Opened (flags gs) (starts gs)) ls (rw e at o),
-        r .1 ∙ rw e (onto-refused (r .0) 21 (g .line)),
+        r .1 ∙ rw e (onto-refused (r .0) (unplaced 21) (g .line)),
       ),
     )

@@ -6,7 +6,7 @@ use mathlib.Core.Path.{_≡_, refl}
 use mathlib.Core.Bool.{Bool, true, false}
 use mathlib.Core.List.{List, [], _∷_}
 use Rattle.units.specs.Dialects.{STRICT}
-use Rattle.units.specs.Refusals.{DIVISOR-ZERO, DIRECTIVE-STRAY}
+use Rattle.units.specs.Refusals.{DIVISOR-ZERO, DIRECTIVE-STRAY, faultAt, unplaced}
 use Rattle.text.specs.Bytes.{bytes, classOf}
 use Rattle.text.specs.Runs.{span}
 use Rattle.text.specs.Order.{compared}
@@ -22,9 +22,9 @@ use Rattle.arithmetic.specs.Operators.{applyUnary, applyBinary, comparison, com
 use Rattle.codes.specs.Levels.{isUnary, levelOf}
 use Rattle.grammar.specs.Grammar.{isPrimary}
 use Rattle.grammar.specs.Parse.{run as runGoal, parse}
-use Rattle.grammar.specs.Bars.{barOutside}
-use Rattle.value.specs.Kinds.{unaryKind, binaryKind, choiceKind}
-use Rattle.value.specs.Values.{primaryValue, hasMissingPcd, unaryValue, bothValues, binaryValue, choiceValue}
+use Rattle.grammar.specs.Bars.{barsOutside}
+use Rattle.value.specs.Kinds.{clashOr, unaryKind, binaryKind, choiceKind}
+use Rattle.value.specs.Values.{primaryValue, missingPcds, unaryValue, bothValues, binaryValue, choiceValue}
 use Rattle.evaluation.specs.Evaluation.{evaluationIn, ofTokens}
 use Rattle.line.specs.Lines.{onto, endsLine, lines}
 use Rattle.line.specs.Directives.{named, wordStart, textStart, directiveOf}
@@ -68,8 +68,8 @@ whole-derives = record { lines = refl; words = (refl, (refl, tt), (refl, (refl, 
 
 pub meanings-hold : _≡_ {A = List Meaning}
     (meaning (setting "FOO" 61 2) true whole STRICT ∷ meaning (setting "FOO" 61 3) true whole STRICT ∷ meaning [] true skipped STRICT ∷ [])
-    (means (4 ∷ 1 ∷ 2 ∷ 0 ∷ 3 ∷ 0 ∷ 5 ∷ 1 ∷ []) 1 ∷ fault DIVISOR-ZERO 2 ∷ means (3 ∷ 2 ∷ 0 ∷ 2 ∷ 0 ∷ 2 ∷ 2 ∷ 4 ∷ 1 ∷ 5 ∷ []) 0 ∷ [])
-unfolding meaning named wordStart textStart directiveOf evaluate ofExpression ofMacro ofNamed nameAt idle ofAnswer evaluationIn ofTokens barOutside recordsIn littleEndian valueAt settingUnderAt settingUnder reading readToken readByte readFrom tooDeep checkDepth classOf span compared macroName pcdName digitOf valueIn literal isDecimal isHexadecimal hexadecimalOf numberOf stringOf stringAt spelled isWide wordOf macroOf begins leading lexemeBy lexeme isPrimary isUnary levelOf runGoal parse unaryKind binaryKind choiceKind andDigits orDigits applyUnary applyBinary comparison compareNumbers primaryValue hasMissingPcd unaryValue bothValues binaryValue choiceValue
+    (means (4 ∷ 1 ∷ 2 ∷ 0 ∷ 3 ∷ 0 ∷ 5 ∷ 1 ∷ []) 1 ∷ fault (faultAt DIVISOR-ZERO 10) 2 ∷ means (3 ∷ 2 ∷ 0 ∷ 2 ∷ 0 ∷ 2 ∷ 2 ∷ 4 ∷ 1 ∷ 5 ∷ []) 0 ∷ [])
+unfolding meaning named wordStart textStart directiveOf evaluate ofExpression ofMacro ofNamed nameAt idle ofAnswer evaluationIn ofTokens barsOutside recordsIn littleEndian valueAt settingUnderAt settingUnder reading readToken readByte readFrom tooDeep checkDepth classOf span compared macroName pcdName digitOf valueIn literal isDecimal isHexadecimal hexadecimalOf numberOf stringOf stringAt spelled isWide wordOf macroOf begins leading lexemeBy lexeme isPrimary isUnary levelOf runGoal parse clashOr unaryKind binaryKind choiceKind andDigits orDigits applyUnary applyBinary comparison compareNumbers primaryValue missingPcds unaryValue bothValues binaryValue choiceValue
 meanings-hold = refl
 
 -- which of their lines are read
@@ -78,9 +78,10 @@ pub readings-hold : _≡_ {A = List (List Bool)}
     ((true ∷ false ∷ false ∷ false ∷ true ∷ false ∷ true ∷ false ∷ [])
     ∷ (true ∷ false ∷ false ∷ false ∷ false ∷ false ∷ false ∷ true ∷ false ∷ true ∷ [])
     ∷ [])
-unfolding readsOf named wordStart textStart directiveOf evaluate ofExpression ofMacro ofNamed nameAt idle ofAnswer evaluationIn ofTokens barOutside recordsIn littleEndian valueAt settingUnderAt settingUnder reading readToken readByte readFrom tooDeep checkDepth classOf span compared macroName pcdName digitOf valueIn literal isDecimal isHexadecimal hexadecimalOf numberOf stringOf stringAt spelled isWide wordOf macroOf begins leading lexemeBy lexeme isPrimary isUnary levelOf runGoal parse unaryKind binaryKind choiceKind andDigits orDigits applyUnary applyBinary comparison compareNumbers primaryValue hasMissingPcd unaryValue bothValues binaryValue choiceValue
+unfolding readsOf named wordStart textStart directiveOf evaluate ofExpression ofMacro ofNamed nameAt idle ofAnswer evaluationIn ofTokens barsOutside recordsIn littleEndian valueAt settingUnderAt settingUnder reading readToken readByte readFrom tooDeep checkDepth classOf span compared macroName pcdName digitOf valueIn literal isDecimal isHexadecimal hexadecimalOf numberOf stringOf stringAt spelled isWide wordOf macroOf begins leading lexemeBy lexeme isPrimary isUnary levelOf runGoal parse clashOr unaryKind binaryKind choiceKind andDigits orDigits applyUnary applyBinary comparison compareNumbers primaryValue missingPcds unaryValue bothValues binaryValue choiceValue
 readings-hold = refl
 
-pub two-elses-refused : (run [] 1 start (lines twoElses) STRICT ≡ refused DIRECTIVE-STRAY 4) × (selection twoElses [] 6 STRICT ≡ refused DIRECTIVE-STRAY 4)
+pub two-elses-refused : (run [] 1 start (lines twoElses) STRICT ≡ refused (unplaced DIRECTIVE-STRAY) 4)
+    × (selection twoElses [] 6 STRICT ≡ refused (unplaced DIRECTIVE-STRAY) 4)
 unfolding selection run step plan settled onto endsLine lines named wordStart textStart directiveOf evaluate ofMacro ofNamed nameAt idle recordsIn orderedNames ordered plainRecords wellFormed littleEndian valueAt settingUnderAt settingUnder classOf span compared macroName pcdName
 two-elses-refused = (refl, refl)

@@ -6,7 +6,7 @@ use mathlib.Core.Bool.{true}
 use mathlib.Core.List.{List, [], _∷_, _++_, map}
 use lib.ListN.{replicate}
 use Rattle.units.specs.Dialects.{STRICT}
-use Rattle.units.specs.Refusals.{NO-DERIVATION, CONDITION-VALUE, TEXT-MALFORMED}
+use Rattle.units.specs.Refusals.{NO-DERIVATION, CONDITION-VALUE, TEXT-MALFORMED, faultAt, unplaced}
 use Rattle.text.specs.Bytes.{bytes, classOf}
 use Rattle.text.specs.Runs.{span}
 use Rattle.text.specs.Order.{compared}
@@ -22,9 +22,9 @@ use Rattle.arithmetic.specs.Operators.{applyUnary, applyBinary, comparison, com
 use Rattle.codes.specs.Levels.{isUnary, levelOf}
 use Rattle.grammar.specs.Grammar.{isPrimary}
 use Rattle.grammar.specs.Parse.{run, parse}
-use Rattle.grammar.specs.Bars.{barOutside}
-use Rattle.value.specs.Kinds.{unaryKind, binaryKind, choiceKind}
-use Rattle.value.specs.Values.{primaryValue, hasMissingPcd, unaryValue, bothValues, binaryValue, choiceValue}
+use Rattle.grammar.specs.Bars.{barsOutside}
+use Rattle.value.specs.Kinds.{clashOr, unaryKind, binaryKind, choiceKind}
+use Rattle.value.specs.Values.{primaryValue, missingPcds, unaryValue, bothValues, binaryValue, choiceValue}
 use Rattle.evaluation.specs.Evaluation.{evaluationIn, ofTokens}
 use Rattle.line.specs.declared.Directive.{Directive}
 use Rattle.line.specs.declared.Directive.the-variants.{If, Ifdef, Ifndef, Elseif, Else, Endif}
@@ -46,22 +46,22 @@ abbrev conditions : List Example
 conditions =
     reads If " 1" (Holds 0)
     ∷ reads If " 0" (Fails 0)
-    ∷ reads If " 2" (Refused CONDITION-VALUE)
-    ∷ reads If " 'a'" (Refused CONDITION-VALUE)
+    ∷ reads If " 2" (Refused (unplaced CONDITION-VALUE))
+    ∷ reads If " 'a'" (Refused (unplaced CONDITION-VALUE))
     ∷ reads If " 1 + 1 == 2" (Holds 2)
-    ∷ reads If " # c" (Refused NO-DERIVATION)
-    ∷ reads If "" (Refused TEXT-MALFORMED)
-    ∷ reads If "(1)" (Refused TEXT-MALFORMED)
+    ∷ reads If " # c" (Refused (faultAt NO-DERIVATION 1))
+    ∷ reads If "" (Refused (unplaced TEXT-MALFORMED))
+    ∷ reads If "(1)" (Refused (unplaced TEXT-MALFORMED))
     ∷ reads Elseif "\t1" (Holds 0)
     ∷ reads If " 1 | 0" (Holds 1)
-    ∷ reads If " 2 | 1" (Refused CONDITION-VALUE)
+    ∷ reads If " 2 | 1" (Refused (unplaced CONDITION-VALUE))
     ∷ reads If " 0 || 0" (Fails 1)
     ∷ reads Elseif " 1 || 1 / 0" (Holds 1)
-    ∷ reads Elseif " 1 |" (Refused NO-DERIVATION)
+    ∷ reads Elseif " 1 |" (Refused (faultAt NO-DERIVATION 4))
     ∷ []
 
 conditions-hold : map (λ x. evaluate [] (x .directive) (bytes (x .text)) STRICT) conditions ≡ map (λ x. x .condition) conditions
-unfolding evaluate ofExpression ofAnswer evaluationIn ofTokens barOutside recordsIn reading readToken readByte readFrom tooDeep checkDepth classOf span compared macroName pcdName digitOf valueIn literal isDecimal isHexadecimal hexadecimalOf numberOf stringOf stringAt spelled isWide wordOf macroOf begins leading lexemeBy lexeme isPrimary isUnary levelOf run parse unaryKind binaryKind choiceKind andDigits orDigits applyUnary applyBinary comparison compareNumbers primaryValue hasMissingPcd unaryValue bothValues binaryValue choiceValue
+unfolding evaluate ofExpression ofAnswer evaluationIn ofTokens barsOutside recordsIn reading readToken readByte readFrom tooDeep checkDepth classOf span compared macroName pcdName digitOf valueIn literal isDecimal isHexadecimal hexadecimalOf numberOf stringOf stringAt spelled isWide wordOf macroOf begins leading lexemeBy lexeme isPrimary isUnary levelOf run parse clashOr unaryKind binaryKind choiceKind andDigits orDigits applyUnary applyBinary comparison compareNumbers primaryValue missingPcds unaryValue bothValues binaryValue choiceValue
 conditions-hold = refl
 
 -- names that the table does not have, one too long for any table, texts that are no name, and directives that take none
@@ -72,19 +72,19 @@ texts =
     ∷ reads Ifdef " A#c" (Fails 0)
     ∷ reads Ifdef " X0123456789ABCDEF0123456789ABCDEF0123456789ABCDEF0123456789ABCDEF" (Fails 0)
     ∷ reads Ifndef " A" (Holds 0)
-    ∷ reads Ifdef " a" (Refused TEXT-MALFORMED)
-    ∷ reads Ifdef " $(A" (Refused TEXT-MALFORMED)
-    ∷ reads Ifdef " $A" (Refused TEXT-MALFORMED)
-    ∷ reads Ifdef " $()" (Refused TEXT-MALFORMED)
-    ∷ reads Ifdef " A B" (Refused TEXT-MALFORMED)
-    ∷ reads Ifdef " A || B" (Refused TEXT-MALFORMED)
-    ∷ reads Ifdef " # A" (Refused TEXT-MALFORMED)
-    ∷ reads Ifdef "A" (Refused TEXT-MALFORMED)
+    ∷ reads Ifdef " a" (Refused (unplaced TEXT-MALFORMED))
+    ∷ reads Ifdef " $(A" (Refused (unplaced TEXT-MALFORMED))
+    ∷ reads Ifdef " $A" (Refused (unplaced TEXT-MALFORMED))
+    ∷ reads Ifdef " $()" (Refused (unplaced TEXT-MALFORMED))
+    ∷ reads Ifdef " A B" (Refused (unplaced TEXT-MALFORMED))
+    ∷ reads Ifdef " A || B" (Refused (unplaced TEXT-MALFORMED))
+    ∷ reads Ifdef " # A" (Refused (unplaced TEXT-MALFORMED))
+    ∷ reads Ifdef "A" (Refused (unplaced TEXT-MALFORMED))
     ∷ reads Else "" (Holds 0)
     ∷ reads Else " # c" (Holds 0)
     ∷ reads Else "#c" (Holds 0)
-    ∷ reads Else "x" (Refused TEXT-MALFORMED)
-    ∷ reads Endif " 1" (Refused TEXT-MALFORMED)
+    ∷ reads Else "x" (Refused (unplaced TEXT-MALFORMED))
+    ∷ reads Endif " 1" (Refused (unplaced TEXT-MALFORMED))
     ∷ []
 
 texts-hold : map (λ x. evaluate [] (x .directive) (bytes (x .text)) STRICT) texts ≡ map (λ x. x .condition) texts

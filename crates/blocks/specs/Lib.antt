@@ -6,3 +6,4 @@ pub mod Refused
 pub mod ConditionExamples
 pub mod SelectionExamples
 pub mod BlockExamples
+pub mod Offsets

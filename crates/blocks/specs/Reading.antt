@@ -4,9 +4,9 @@ use Prim.Native.Nat.{ℕ}
 use mathlib.Core.Bool.{Bool, true, false, not, _&&_, _||_}
 use mathlib.Core.List.{List, [], _∷_, _++_}
 use Rattle.units.specs.declared.Dialect.{Dialect}
-use Rattle.line.specs.Directives.{directiveOf, textOf}
+use Rattle.line.specs.Directives.{directiveOf}
 use Rattle.line.specs.declared.Directive.the-variants.{Elseif}
-use Rattle.condition.specs.Conditions.{evaluate}
+use Rattle.condition.specs.Conditions.{conditionOf}
 use Rattle.line.specs.declared.Condition.{Condition}
 use Rattle.line.specs.declared.Condition.the-variants.{Holds, Fails, Refused}
 use Rattle.blocks.specs.Blocks.{Blocks, empty, line, group, Branches, endif, elseif, else}
@@ -15,7 +15,7 @@ use Rattle.blocks.specs.Blocks.{Blocks, empty, line, group, Branches, en
 abbrev pub holds : Condition → Bool
 holds (Holds n) = true
 holds (Fails n) = false
-holds (Refused r) = false
+holds (Refused x) = false
 
 -- For each line, whether it is a directive that is read. `around`: the branch around the blocks is taken. `earlier`: an earlier branch of
 -- the group was taken. A plain line is never read.
@@ -24,13 +24,13 @@ unfoldable mutual
   readsOf t around empty δ = []
   readsOf t around (line l bs) δ = false ∷ readsOf t around bs δ
   readsOf t around (group l body os bs) δ =
-      let taken = around && holds (evaluate t (directiveOf l) (textOf l) δ) in
+      let taken = around && holds (conditionOf t (directiveOf l) l δ) in
       around ∷ (readsOf t taken body δ ++ (readsIn t around taken os δ ++ readsOf t around bs δ))
 
   pub readsIn : (t : List ℕ) → (around earlier : Bool) → Branches → Dialect → List Bool
   readsIn t around earlier (endif l) δ = around ∷ []
   readsIn t around earlier (elseif l body os) δ =
       let read = around && not earlier in
-      let taken = read && holds (evaluate t Elseif (textOf l) δ) in
+      let taken = read && holds (conditionOf t Elseif l δ) in
       read ∷ (readsOf t taken body δ ++ readsIn t around (earlier || taken) os δ)
   readsIn t around earlier (else l body e) δ = around ∷ (readsOf t (around && not earlier) body δ ++ (around ∷ []))

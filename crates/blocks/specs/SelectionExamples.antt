@@ -6,7 +6,7 @@ use mathlib.Core.Path.{_≡_, refl}
 use mathlib.Core.List.{List, [], _∷_, _++_}
 use lib.ListN.{replicate}
 use Rattle.units.specs.Dialects.{STRICT}
-use Rattle.units.specs.Refusals.{DIVISOR-ZERO}
+use Rattle.units.specs.Refusals.{DIVISOR-ZERO, faultAt}
 use Rattle.text.specs.Bytes.{bytes, classOf}
 use Rattle.text.specs.Runs.{span}
 use Rattle.text.specs.Order.{compared}
@@ -22,9 +22,9 @@ use Rattle.arithmetic.specs.Operators.{applyUnary, applyBinary, comparison, com
 use Rattle.codes.specs.Levels.{isUnary, levelOf}
 use Rattle.grammar.specs.Grammar.{isPrimary}
 use Rattle.grammar.specs.Parse.{run as runGoal, parse}
-use Rattle.grammar.specs.Bars.{barOutside}
-use Rattle.value.specs.Kinds.{unaryKind, binaryKind, choiceKind}
-use Rattle.value.specs.Values.{primaryValue, hasMissingPcd, unaryValue, bothValues, binaryValue, choiceValue}
+use Rattle.grammar.specs.Bars.{barsOutside}
+use Rattle.value.specs.Kinds.{clashOr, unaryKind, binaryKind, choiceKind}
+use Rattle.value.specs.Values.{primaryValue, missingPcds, unaryValue, bothValues, binaryValue, choiceValue}
 use Rattle.evaluation.specs.Evaluation.{evaluationIn, ofTokens}
 use Rattle.line.specs.Lines.{onto, endsLine, lines}
 use Rattle.line.specs.Directives.{named, wordStart, textStart, directiveOf}
@@ -57,9 +57,9 @@ results =
     ∷ []
 
 pub results-hold : results ≡ accepted (4 ∷ 1 ∷ 2 ∷ 0 ∷ 3 ∷ 0 ∷ 5 ∷ 1 ∷ []) 1
-    ∷ refused DIVISOR-ZERO 3
+    ∷ refused (faultAt DIVISOR-ZERO 10) 3
     ∷ accepted (3 ∷ 0 ∷ 5 ∷ []) 3
     ∷ accepted (4 ∷ 1 ∷ 5 ∷ []) 2
     ∷ []
-unfolding selection run step plan settled onto endsLine lines named wordStart textStart directiveOf evaluate ofExpression ofMacro ofNamed nameAt idle ofAnswer evaluationIn ofTokens barOutside recordsIn zeros isName wellFormedName orderedNames ordered plainKind plainRecord plainRecords wellFormed littleEndian valueAt settingUnderAt settingUnder reading readToken readByte readFrom tooDeep checkDepth classOf span compared macroName pcdName digitOf valueIn literal isDecimal isHexadecimal hexadecimalOf numberOf stringOf stringAt spelled isWide wordOf macroOf begins leading lexemeBy lexeme isPrimary isUnary levelOf runGoal parse unaryKind binaryKind choiceKind andDigits orDigits applyUnary applyBinary comparison compareNumbers primaryValue hasMissingPcd unaryValue bothValues binaryValue choiceValue
+unfolding selection run step plan settled onto endsLine lines named wordStart textStart directiveOf evaluate ofExpression ofMacro ofNamed nameAt idle ofAnswer evaluationIn ofTokens barsOutside recordsIn zeros isName wellFormedName orderedNames ordered plainKind plainRecord plainRecords wellFormed littleEndian valueAt settingUnderAt settingUnder reading readToken readByte readFrom tooDeep checkDepth classOf span compared macroName pcdName digitOf valueIn literal isDecimal isHexadecimal hexadecimalOf numberOf stringOf stringAt spelled isWide wordOf macroOf begins leading lexemeBy lexeme isPrimary isUnary levelOf runGoal parse clashOr unaryKind binaryKind choiceKind andDigits orDigits applyUnary applyBinary comparison compareNumbers primaryValue missingPcds unaryValue bothValues binaryValue choiceValue
 results-hold = refl

@@ -33,6 +33,6 @@ pub fn of_nothing(text: &[u8]) -> Condition
     if is_idle(text, Offset(0)) {
         Condition::Holds(0)
     } else {
-        Condition::Refused(units::TEXT_MALFORMED)
+        Condition::Refused(units::unplaced(units::TEXT_MALFORMED))
     }
 }

@@ -5,6 +5,7 @@ use evaluation::AnswerValue;
 use evaluation::outcome;
 use line::Condition;
 use units::Dialect;
+use units::Fault;
 ghost use mathlib.Core.Path.{_≡_};
 ghost use mathlib.Core.Bool.{true};
 ghost use Rattle.settings.specs.Table.{ordered};
@@ -21,18 +22,24 @@ fn of_number(x: u64, count: usize) -> Condition
     if x == 0 {
         return Condition::Fails(count);
     }
-    Condition::Refused(units::CONDITION_VALUE)
+    Condition::Refused(units::unplaced(units::CONDITION_VALUE))
 }
 
 fn of_answer(a: Answer) -> Condition
     ensures { λ r. ⌜ ((m : Memory) → r ≡ ofAnswer (denoteAnswer m a)) ⌝ }
 {
     match a {
-        Answer::Refused(r) => Condition::Refused(r.number),
+        Answer::Refused(r) => {
+            let at = r.offset;
+            Condition::Refused(Fault {
+                number: r.number,
+                at,
+            })
+        }
         Answer::Value(v, count) => match v {
             AnswerValue::Number(x) => of_number(x, count),
-            AnswerValue::String(_) => Condition::Refused(units::CONDITION_VALUE),
-            AnswerValue::Wide(_) => Condition::Refused(units::CONDITION_VALUE),
+            AnswerValue::String(_) => Condition::Refused(units::unplaced(units::CONDITION_VALUE)),
+            AnswerValue::Wide(_) => Condition::Refused(units::unplaced(units::CONDITION_VALUE)),
         },
     }
 }
@@ -43,7 +50,7 @@ pub fn of_expression<'a>(table: &'a [u8], text: &'a [u8], dialect: Dialect) -> C
     ensures { λ r. ⌜ r ≡ ofExpression (now (table .entry)) (now (text .entry)) dialect ⌝ }
 {
     if !blanks::is_spaced(text) {
-        return Condition::Refused(units::TEXT_MALFORMED);
+        return Condition::Refused(units::unplaced(units::TEXT_MALFORMED));
     }
     of_answer(outcome::evaluate_in(text, table, Dialect { bars: true }))
 }

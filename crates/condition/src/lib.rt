@@ -2,6 +2,7 @@
 mod blanks;
 mod expressions;
 mod macros;
+pub mod places;
 
 use line::Condition;
 use line::Directive;

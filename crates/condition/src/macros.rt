@@ -84,11 +84,11 @@ fn of_named(table: &[u8], wanted: bool, text: &[u8], n: Named) -> Condition
     ensures { λ r. ⌜ r ≡ ofNamed (now (table .entry)) wanted (now (text .entry)) n ⌝ }
 {
     if n.len == 0 {
-        return Condition::Refused(units::TEXT_MALFORMED);
+        return Condition::Refused(units::unplaced(units::TEXT_MALFORMED));
     }
     let after = n.after;
     if !blanks::is_idle(text, after) {
-        return Condition::Refused(units::TEXT_MALFORMED);
+        return Condition::Refused(units::unplaced(units::TEXT_MALFORMED));
     }
     let start = n.start;
     let name = parts::part(text, start, n.len);
@@ -102,7 +102,7 @@ pub fn of_macro(table: &[u8], wanted: bool, text: &[u8], dialect: Dialect) -> Co
     ensures { λ r. ⌜ r ≡ ofMacro (now (table .entry)) wanted (now (text .entry)) dialect ⌝ }
 {
     if !blanks::is_spaced(text) {
-        return Condition::Refused(units::TEXT_MALFORMED);
+        return Condition::Refused(units::unplaced(units::TEXT_MALFORMED));
     }
     let first = runs::run_end(text, Offset(0), Set::Blanks);
     let start = first.0;

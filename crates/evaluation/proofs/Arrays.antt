@@ -4,23 +4,22 @@ use native.Mathlib.Omega.{arith}
 use mathlib.Core.Path.{_≡_, refl, sym, ap, _∙_, fun-ext}
 use mathlib.Core.Bool.{Bool, true, false}
 use mathlib.Core.List.{List, [], _∷_, _++_, map, append-assoc}
-use lib.ListN.{length, getD, take, drop, length-map, length-append, List·getD-eq-default}
-use lib.Seq.{sets-eq, take-at, length-sets}
+use lib.ListN.{length, getD, drop, length-map, length-append, List·getD-eq-default}
+use lib.Seq.{sets-eq, length-sets}
 use lib.Dec.{ltb}
 use borrow.Author.Tests.{ltb-true, ltb-false}
 use Rattle.units.specs.declared.Dialect.{Dialect}
+use Rattle.units.specs.declared.Offset.{Offset}
 use Rattle.text.specs.Parts.{stored}
-use Rattle.token.specs.Tokens.{Token, Reading, codesOf, reading, Stored}
+use Rattle.token.specs.Tokens.{Token, Reading, reading, Stored}
 use Rattle.token.specs.Steps.{Room}
 use Rattle.token.specs.declared.scan.Ending.the-variants.{Complete}
 use Rattle.token.proofs.Reading.{most-tokens}
-use Rattle.grammar.specs.Parse.{parse}
-use Rattle.expression.specs.Meaning.{codeOf, meaning}
 use Rattle.expression.specs.Parsing.{tokenAt, Holding}
 use Rattle.value.specs.Places.{Memory}
-use Rattle.value.specs.Values.{hasMissingPcd}
-use Rattle.evaluation.specs.Tokens.{tokensFrom}
-use Rattle.evaluation.specs.Evaluation.{END-TOKEN, tokenIn, barRefused, answerTokens, ofTokens, evaluationIn}
+use Rattle.leftmost.specs.Tokens.{tokensFrom}
+use Rattle.evaluation.specs.Arrays.{ofArrays}
+use Rattle.evaluation.specs.Evaluation.{END-TOKEN, tokenIn, ofTokens, evaluationIn}
 
 -- one entry of each token, stored in a list with room for all
 module _ (f : Token → ℕ) (ts : List Token) (l l′ : List ℕ) (fits : length ts ≤ length l) (so : l′ ≡ stored (map f ts) l) where
@@ -30,9 +29,6 @@ module _ (f : Token → ℕ) (ts : List Token) (l l′ : List ℕ) (fits : lengt
   split : l′ ≡ map f ts ++ rest
   unfolding rest
   split = so ∙ sets-eq (map f ts) l 0 (omega (arith, length-map ts f))
-
-  first : take (length ts) l′ ≡ map f ts
-  first = rw split (take-at (map f ts) rest (length ts) (length-map ts f))
 
   nth : (us : List Token) (r : List ℕ) (i : ℕ) → i < length us → getD (map f us ++ r) i 0 ≡ f (getD us i END-TOKEN)
   nth [] r i h = absurd (omega arith)
@@ -46,9 +42,6 @@ module _ (read : Reading) (cs ss ls vs cs′ ss′ ls′ vs′ : List ℕ) (so :
     (c : length (read .tokens) ≤ length cs) (s : length (read .tokens) ≤ length ss)
     (l : length (read .tokens) ≤ length ls) (v : length (read .tokens) ≤ length vs)
   where
-    pub codes-read : take (length (read .tokens)) cs′ ≡ codesOf (read .tokens)
-    codes-read = first (λ t. t .code) (read .tokens) cs cs′ c (so .codes-are)
-
     at : (i : ℕ) → tokenAt cs′ ss′ ls′ vs′ (length (read .tokens)) i ≡ tokenIn (read .tokens) i
     at i = by (ltb i (length (read .tokens))) refl
       where
@@ -100,14 +93,13 @@ module _ (m : Memory) (δ : Dialect) {cs₀ ss₀ ls₀ vs₀ cs ss ls vs : List
         }
 
     -- if reading met no refusal, the answer to the arrays is the answer to the expression
-    pub answers : (n : ℕ) → n ≡ length (read .tokens) → read .ending ≡ Complete
-        → answerTokens (barRefused (take n cs) δ) (hasMissingPcd m (tokensFrom (tokenAt cs ss ls vs n) 0 n))
-        (parse codeOf (meaning m) (tokenAt cs ss ls vs n) n) ≡ evaluationIn m δ
+    pub answers : (n : ℕ) (end : Offset) → n ≡ length (read .tokens) → read .ending ≡ Complete end
+        → ofArrays m (tokenAt cs ss ls vs n) n (end .0) δ ≡ evaluationIn m δ
     unfolding evaluationIn ofTokens
-    answers n c y =
-        let codes = codes-read read cs₀ ss₀ ls₀ vs₀ cs ss ls vs so (room .codes-hold) (room .starts-hold) (room .lens-hold) (room .values-hold) in
-        let tokens = tokens-read read cs₀ ss₀ ls₀ vs₀ cs ss ls vs so (room .codes-hold) (room .starts-hold) (room .lens-hold) (room .values-hold) in
-        rw (c, y, codes, tokens, from-list [] (read .tokens))
+    answers n end c y =
+        let read-all = tokens-read read cs₀ ss₀ ls₀ vs₀ cs ss ls vs so (room .codes-hold) (room .starts-hold) (room .lens-hold) (room .values-hold) in
+        let tokens : tokenAt cs ss ls vs n ≡ tokenIn (read .tokens) = rw c read-all in
+        ap (λ (tok : ℕ → Token). ofArrays m tok n (end .0) δ) tokens ∙ rw (c, y, from-list [] (read .tokens))
 
 -- as many entries as bytes, or 200, are room enough
 pub room-of : (e : List ℕ) (δ : Dialect) {cs ss ls vs : List ℕ} (most : ℕ) → length (reading e δ .tokens) ≤ most

@@ -1,4 +1,3 @@
-pub mod Depth
 pub mod Arrays
 pub mod FromTree
-pub mod MissingFrom
+pub mod OffsetWithin

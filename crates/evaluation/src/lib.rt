@@ -1,6 +1,4 @@
 // The answer to an expression: its value and the number of operators that were applied, or a refusal.
-mod bars;
-mod missing;
 pub mod outcome;
 
 use lookup::Place;

@@ -1,9 +1,10 @@
 // The answer to an expression, and the part of memory that holds a string.
 use crate::Answer;
 use crate::AnswerValue;
-use crate::bars;
-use crate::missing;
 use expression::Parsed;
+use expression::arrays;
+use leftmost::bars;
+use leftmost::missing;
 use lookup::Place;
 use lookup::TextKind;
 use lookup::Value;
@@ -13,30 +14,38 @@ use token::scan::Ending;
 use units::Dialect;
 use units::Offset;
 use units::TokenNumber;
+use units::Where;
 use value::Attributes;
 use value::Kind;
+use value::forms;
 use value::values;
 ghost use mathlib.Core.Path.{_≡_};
 ghost use mathlib.Core.Bool.{true};
-ghost use lib.ListN.{take};
+ghost use lib.Dec.{ltb};
+ghost use Rattle.text.specs.Bytes.{pick};
 ghost use Rattle.settings.specs.Table.{ordered};
 ghost use Rattle.token.specs.Tokens.{reading};
 ghost use Rattle.token.specs.Steps.{Room};
-ghost use Rattle.grammar.specs.Parse.{parse};
 ghost use Rattle.lookup.specs.declared.Value.the-variants.{Text};
 ghost use Rattle.value.specs.Places.{Memory, over};
-ghost use Rattle.value.specs.Values.{denoteValue, hasMissingPcd};
+ghost use Rattle.value.specs.Values.{denoteValue};
 ghost use Rattle.value.specs.Denote.{denoteAttributes};
-ghost use Rattle.expression.specs.Meaning.{codeOf, meaning};
-ghost use Rattle.expression.specs.Parsing.{tokenAt, Ready};
-ghost use Rattle.evaluation.specs.Tokens.{tokensFrom};
-ghost use Rattle.evaluation.specs.Evaluation.{refusedWith, answerValue, clashes as clashesOf, checkThenAnswer, barRefused, answerTokens};
+ghost use Rattle.expression.specs.Parsing.{tokenAt, Holding, Ready};
+ghost use Rattle.evaluation.specs.Arrays.{ofArrays};
+ghost use Rattle.evaluation.specs.Evaluation.{refusedAt, refusedWith, answerValue, clashIn, refusedOr, checkThenAnswer};
 ghost use Rattle.evaluation.specs.Evaluation.{evaluationIn, evaluation, denoteAnswerValue, denoteAnswer, HandsBack};
 
+// A refusal that has no place.
 fn refused(number: u8) -> Answer
     ensures { λ r. ⌜ ((m : Memory) → denoteAnswer m r ≡ refusedWith number) ⌝ }
 {
     Answer::Refused(units::refuse(number))
+}
+
+fn refused_at(number: u8, at: Offset) -> Answer
+    ensures { λ r. ⌜ ((m : Memory) → denoteAnswer m r ≡ refusedAt number (at .0)) ⌝ }
+{
+    Answer::Refused(units::refuse_at(number, at))
 }
 
 // A string by its kind.
@@ -56,40 +65,68 @@ fn answer_value(value: Value, count: usize) -> Answer
     match value {
         Value::Number(x) => Answer::Value(AnswerValue::Number(x), count),
         Value::Text(k, p) => Answer::Value(answer_text(k, p), count),
-        Value::Fault(number) => refused(number),
+        Value::Fault(f) => {
+            let at = f.at;
+            refused_at(f.number, at)
+        }
     }
 }
 
-fn clashes(k: Kind) -> bool
-    ensures { λ r. ⌜ r ≡ clashesOf k ⌝ }
+// The operator to blame for wrong kinds.
+fn clash_in(k: Kind) -> Where
+    ensures { λ r. ⌜ r ≡ clashIn k ⌝ }
 {
     match k {
-        Kind::Number => false,
-        Kind::String => false,
-        Kind::Wide => false,
-        Kind::Clash => true,
+        Kind::Number => Where::Nowhere,
+        Kind::String => Where::Nowhere,
+        Kind::Wide => Where::Nowhere,
+        Kind::Clash(p) => Where::At(Offset(p as usize)),
     }
 }
 
-// The answer if the tokens derive a tree: whether a bar is refused, whether a PCD is missing, and the attributes of the tree.
-fn check_then_answer(bar: bool, missing: bool, a: Attributes) -> Answer
-    ensures { λ r. ⌜ ((m : Memory) → denoteAnswer m r ≡ checkThenAnswer bar missing (denoteAttributes m a)) ⌝ }
+// The refusal with this number at a place, if there is one; else the answer `x`.
+fn refused_or(place: Where, number: u8, x: Answer) -> Answer
+    ensures { λ r. ⌜ ((m : Memory) → denoteAnswer m r ≡ refusedOr place number (denoteAnswer m x)) ⌝ }
 {
-    if bar {
-        return refused(units::BAR_OUTSIDE);
+    match place {
+        Where::Nowhere => x,
+        Where::At(at) => refused_at(number, at),
     }
-    if missing {
-        return refused(units::PCD_MISSING);
-    }
-    let kind = a.kind;
-    if clashes(kind) {
-        return refused(units::KINDS_UNSUITED);
-    }
-    let value = a.value;
-    answer_value(value, a.count)
 }
 
-// The answer to the first n tokens of the arrays.
+// The answer if the tokens derive a tree: the places of a bar that is refused and of a PCD that is missing, and the attributes of the tree.
+fn check_then_answer(bar: Where, pcd: Where, a: Attributes) -> Answer
+    ensures { λ r. ⌜ ((m : Memory) → denoteAnswer m r ≡ checkThenAnswer bar pcd (denoteAttributes m a)) ⌝ }
+{
+    let kind = a.kind;
+    let value = a.value;
+    let answer = answer_value(value, a.count);
+    let answer = refused_or(clash_in(kind), units::KINDS_UNSUITED, answer);
+    let answer = refused_or(pcd, units::PCD_MISSING, answer);
+    refused_or(bar, units::BAR_OUTSIDE, answer)
+}
+
+// Where token `at` of n starts; past the tokens, where the expression ends.
+fn start_at(
+    codes: &[u8; 200],
+    starts: &[u16],
+    lens: &[u16],
+    values: &[u64],
+    n: TokenNumber,
+    end: Offset,
+    at: TokenNumber,
+) -> Offset
+    requires { ⌜ Holding (now codes) (now starts) (now lens) (now values) (n .0) ⌝ }
+    ensures { λ r. ⌜ r .0 ≡ pick (ltb (at .0) (n .0)) (tokenAt (now (codes .entry)) (now (starts .entry)) (now (lens .entry)) (now (values .entry)) (n .0) (at .0) .start) (end .0) ⌝ }
+{
+    if n.0 <= at.0 {
+        return end;
+    }
+    let k = arrays::token_at(codes, starts, lens, values, n, at);
+    forms::place(k)
+}
+
+// The answer to the first n tokens of the arrays, for an expression that ends at `end`.
 fn answer_tokens<'a>(
     expr: &'a [u8],
     table: &'a [u8],
@@ -98,20 +135,27 @@ fn answer_tokens<'a>(
     lens: &'a [u16],
     values: &'a [u64],
     n: TokenNumber,
+    end: Offset,
     dialect: Dialect,
 ) -> Answer
     requires { ⌜ Ready (now table) (now codes) (now starts) (now lens) (now values) (n .0) ⌝ }
-    ensures { λ r. ⌜ denoteAnswer (over (now (expr .entry)) (now (table .entry))) r ≡ answerTokens (barRefused (take (n .0) (now (codes .entry))) dialect) (hasMissingPcd (over (now (expr .entry)) (now (table .entry))) (tokensFrom (tokenAt (now (codes .entry)) (now (starts .entry)) (now (lens .entry)) (now (values .entry)) (n .0)) 0 (n .0))) (parse codeOf (meaning (over (now (expr .entry)) (now (table .entry)))) (tokenAt (now (codes .entry)) (now (starts .entry)) (now (lens .entry)) (now (values .entry)) (n .0)) (n .0)) ⌝ }
+    ensures { λ r. ⌜ denoteAnswer (over (now (expr .entry)) (now (table .entry))) r ≡ ofArrays (over (now (expr .entry)) (now (table .entry))) (tokenAt (now (codes .entry)) (now (starts .entry)) (now (lens .entry)) (now (values .entry)) (n .0)) (n .0) (end .0) dialect ⌝ }
 {
-    let bar = bars::is_refused(codes, n, dialect);
-    let absent = missing::has_missing_pcd(expr, table, codes, starts, lens, values, n);
+    let bar = bars::bar_at(codes, starts, lens, values, n, dialect);
+    let pcd = missing::pcd_at(expr, table, codes, starts, lens, values, n);
     match expression::parse(expr, table, codes, starts, lens, values, n) {
-        Parsed::Bad(_) => refused(units::NO_DERIVATION),
-        Parsed::Got(a, end) => {
-            if end.0 != n.0 {
-                return refused(units::NO_DERIVATION);
+        Parsed::Bad(at) => refused_at(
+            units::NO_DERIVATION,
+            start_at(codes, starts, lens, values, n, end, at),
+        ),
+        Parsed::Got(a, next) => {
+            if next.0 != n.0 {
+                return refused_at(
+                    units::NO_DERIVATION,
+                    start_at(codes, starts, lens, values, n, end, next),
+                );
             }
-            check_then_answer(bar, absent, a)
+            check_then_answer(bar, pcd, a)
         }
     }
 }
@@ -134,7 +178,17 @@ fn evaluate_with_room<'a>(
     let read = s.tokens;
     match ending {
         Ending::Refused(r) => Answer::Refused(r),
-        Ending::Complete => answer_tokens(expr, table, codes, starts, lens, values, read, dialect),
+        Ending::Complete(end) => answer_tokens(
+            expr,
+            table,
+            codes,
+            starts,
+            lens,
+            values,
+            read,
+            end,
+            dialect,
+        ),
     }
 }
 

@@ -173,13 +173,13 @@ module _ {k : Work} {w : List (List ℕ)} {top p : ℕ} where
               rw (placed (top - 1) (omega (arith, z .0)) l, q) (rw (z .1, z .2, z .3) at (h .next));
         }
 
-    pub choice-on : (o : Token) → Next k choice x w top p
+    pub choice-on : (o : Token) → o ≡ tokenIn (k .i) x → Next k choice x w top p
         → Left k w (top - 3) (choiceFrom o (at k w (top - 3)) (at k w (top - 3 + 1)) (at k w (top - 3 + 2))) w′
         → Rest k w′ (top - 2) (p + 1)
-    choice-on o r l =
+    choice-on o q r l =
         record {
           leaves = λ v g.
               let h = r .does v g in
               let z = three (k .i .m) w top _ h in
-              rw (placed (top - 2) (omega (arith, z .0)) l) (rw (z .1, z .2, z .3, z .4) at (h .next));
+              rw (placed (top - 2) (omega (arith, z .0)) l, q) (rw (z .1, z .2, z .3, z .4) at (h .next));
         }

@@ -1,2 +1,3 @@
 pub mod LineZero
 pub mod Refused
+pub mod Unplaced

@@ -16,7 +16,7 @@ abbrev pub encoding : (datum : ℕ) → Value → Encoding
 encoding d (number x) = numberField d x
 encoding d (text String p s) = stringField d (terminated s)
 encoding d (text Wide p s) = stringField d (widened s)
-encoding d (fault r) = unfit r
+encoding d (fault f) = unfit (f .number)
 
 -- the refusal of the expression, which leaves the buffer as it was, or the bytes of its value at the front of the buffer
 abbrev pub written : Evaluation → (datum : ℕ) → (buffer : List ℕ) → Field

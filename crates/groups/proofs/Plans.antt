@@ -6,6 +6,8 @@ use mathlib.Core.Path.{_≡_, refl, sym}
 use mathlib.Core.Bool.{Bool, true, false, not, _&&_, _||_, false≢true}
 use lib.Dec.{eqb, leb}
 use borrow.Author.Tests.{leb-false, eqb-false}
+use Rattle.units.specs.Refusals.{DIRECTIVE-STRAY, NESTING-DEEP, unplaced}
+use Rattle.units.specs.declared.Fault.{Fault}
 use Rattle.text.specs.Bytes.{pick}
 use Rattle.line.specs.declared.Directive.{Directive}
 use Rattle.line.specs.declared.Directive.the-variants.{Plain, If, Ifdef, Ifndef, Elseif, Else, Endif, Unknown}
@@ -55,9 +57,9 @@ branch-above false = omega arith
 
 -- a plan that is refused by a test, or read if another test holds
 module _ (d : Directive) (s : Innermost) where
-  tested : (k : ℕ) (a b : Bool) (r : Transition) → (a ≡ false → Suitable d s Read) → (a ≡ false → Suited Below r (s .depth))
-      → Suitable d s (pick a (Unread (Refuse k)) (pick b Read (Unread r)))
-  tested k a b r h i =
+  tested : (f : Fault) (a b : Bool) (r : Transition) → (a ≡ false → Suitable d s Read) → (a ≡ false → Suited Below r (s .depth))
+      → Suitable d s (pick a (Unread (Refuse f)) (pick b Read (Unread r)))
+  tested f a b r h i =
       pick-case (Suitable d s) a (λ _. record { suits = tt; marks = tt }) (λ e. pick-case (Suitable d s) b (λ _. h e) (λ _. i e))
 
 -- a group is open
@@ -74,7 +76,7 @@ pushes b k h = record { suits = h; marks = branch-above b }
 opening-suitable : (d : Directive) (s : Innermost) → ((b : Bool) → s .depth < MAX-GROUPS → Suited Above (settled d (s .flags) b) (s .depth))
     → Suitable d s (opening s)
 opening-suitable d s h =
-    tested d s 20 (leb MAX-GROUPS (s .depth)) (s .flags .taken) (Push UNREAD (firstBranch false false))
+    tested d s (unplaced NESTING-DEEP) (leb MAX-GROUPS (s .depth)) (s .flags .taken) (Push UNREAD (firstBranch false false))
     (λ e. settles d s (λ b. h b (leb-false MAX-GROUPS (s .depth) e)))
     (λ e. record { suits = leb-false MAX-GROUPS (s .depth) e; marks = omega arith })
 
@@ -89,15 +91,16 @@ suitable If s = opening-suitable If s (λ b. pushes b (s .depth))
 suitable Ifdef s = opening-suitable Ifdef s (λ b. pushes b (s .depth))
 suitable Ifndef s = opening-suitable Ifndef s (λ b. pushes b (s .depth))
 suitable Elseif s =
-    tested Elseif s 19 (eqb (s .depth) 0 || s .flags .last) (s .flags .around && not (wasTaken (s .flags))) (Replace UNREAD (nextBranch (s .flags) false false))
+    tested Elseif s (unplaced DIRECTIVE-STRAY) (eqb (s .depth) 0 || s .flags .last) (s .flags .around && not (wasTaken (s .flags)))
+    (Replace UNREAD (nextBranch (s .flags) false false))
     (λ e. settles Elseif s (λ b. record { suits = open-some (s .depth) (s .flags .last) e; marks = branch-above b }))
     (λ e. record { suits = open-some (s .depth) (s .flags .last) e; marks = omega arith })
 suitable Else s =
-    tested Else s 19 (eqb (s .depth) 0 || s .flags .last) (s .flags .around) (Replace UNREAD (nextBranch (s .flags) false true))
+    tested Else s (unplaced DIRECTIVE-STRAY) (eqb (s .depth) 0 || s .flags .last) (s .flags .around) (Replace UNREAD (nextBranch (s .flags) false true))
     (λ e. settles Else s (λ b. record { suits = open-some (s .depth) (s .flags .last) e; marks = branch-above (not (wasTaken (s .flags))) }))
     (λ e. record { suits = open-some (s .depth) (s .flags .last) e; marks = omega arith })
 suitable Endif s =
-    tested Endif s 19 (eqb (s .depth) 0) (s .flags .around) (Pop UNREAD)
+    tested Endif s (unplaced DIRECTIVE-STRAY) (eqb (s .depth) 0) (s .flags .around) (Pop UNREAD)
     (λ e. settles Endif s (λ b. record { suits = open-some (s .depth) false (rw e); marks = omega arith }))
     (λ e. record { suits = open-some (s .depth) false (rw e); marks = omega arith })
 suitable Unknown s = record { suits = tt; marks = tt }

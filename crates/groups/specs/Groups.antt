@@ -3,6 +3,7 @@ use Prim.Native.Nat.{ℕ, _+_}
 use mathlib.Core.Bool.{true}
 use mathlib.Core.List.{List, [], _∷_}
 use lib.ListN.{length}
+use Rattle.units.specs.declared.Fault.{Fault}
 use Rattle.groups.specs.Rules.{firstBranch}
 use Rattle.groups.specs.declared.Flags.{Flags}
 use Rattle.groups.specs.declared.Innermost.{Innermost}
@@ -30,10 +31,10 @@ pub record State : Type 0 where
 abbrev pub state : List Group → ℕ → State
 state gs k = record { groups = gs; count = k }
 
--- a line's mark and the state after it, or the number of the refusal
+-- a line's mark and the state after it, or its refusal
 pub data Outcome : Type 0 where
   go : (mark : ℕ) → State → Outcome
-  stop : ℕ → Outcome
+  stop : Fault → Outcome
 
 -- the open groups with other flags of the innermost one, and without it
 abbrev pub replace : Flags → List Group → List Group
@@ -50,4 +51,4 @@ applied (Stay m) n k s = go m (state (s .groups) (s .count + k))
 applied (Push m f) n k s = go m (state (group f n ∷ s .groups) (s .count + k))
 applied (Replace m f) n k s = go m (state (replace f (s .groups)) (s .count + k))
 applied (Pop m) n k s = go m (state (pop (s .groups)) (s .count + k))
-applied (Refuse r) n k s = stop r
+applied (Refuse f) n k s = stop f

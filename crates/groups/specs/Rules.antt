@@ -3,7 +3,7 @@
 use Prim.Native.Nat.{ℕ}
 use mathlib.Core.Bool.{Bool, true, false, not, _&&_, _||_}
 use lib.Dec.{eqb, leb}
-use Rattle.units.specs.Refusals.{WORD-UNKNOWN, DIRECTIVE-STRAY, NESTING-DEEP}
+use Rattle.units.specs.Refusals.{WORD-UNKNOWN, DIRECTIVE-STRAY, NESTING-DEEP, unplaced}
 use Rattle.text.specs.Bytes.{pick}
 use Rattle.line.specs.declared.Directive.{Directive}
 use Rattle.line.specs.declared.Directive.the-variants.{Plain, If, Ifdef, Ifndef, Elseif, Else, Endif, Unknown}
@@ -57,7 +57,7 @@ abbrev pub readIf : Bool → Transition → Plan
 readIf b r = pick b Read (Unread r)
 
 abbrev pub stray : Plan
-stray = Unread (Refuse DIRECTIVE-STRAY)
+stray = Unread (Refuse (unplaced DIRECTIVE-STRAY))
 
 -- the mark of a plain line
 abbrev pub plainMark : Innermost → ℕ
@@ -65,7 +65,7 @@ plainMark s = pick (s .flags .taken) KEPT DROPPED
 
 -- `!if`, `!ifdef` and `!ifndef`: the current branch is the one around the new group
 abbrev pub opening : Innermost → Plan
-opening s = pick (leb MAX-GROUPS (s .depth)) (Unread (Refuse NESTING-DEEP)) (readIf (s .flags .taken) (Push UNREAD (firstBranch false false)))
+opening s = pick (leb MAX-GROUPS (s .depth)) (Unread (Refuse (unplaced NESTING-DEEP))) (readIf (s .flags .taken) (Push UNREAD (firstBranch false false)))
 
 -- Each directive before its text is looked at. `!elseif` and `!else` are stray outside a group and after its `!else`, `!endif` outside.
 unfoldable pub plan : Directive → Innermost → Plan
@@ -80,7 +80,7 @@ plan Else s =
     pick (eqb (s .depth) 0 || s .flags .last) stray
     (readIf (s .flags .around) (Replace UNREAD (nextBranch (s .flags) false true)))
 plan Endif s = pick (eqb (s .depth) 0) stray (readIf (s .flags .around) (Pop UNREAD))
-plan Unknown s = Unread (Refuse WORD-UNKNOWN)
+plan Unknown s = Unread (Refuse (unplaced WORD-UNKNOWN))
 
 -- the mark of a read directive that begins a branch
 abbrev pub branchMark : (taken : Bool) → ℕ
@@ -102,4 +102,4 @@ settled Unknown f b = Stay UNREAD
 abbrev pub conclude : Directive → Innermost → Condition → Transition
 conclude d s (Holds n) = settled d (s .flags) true
 conclude d s (Fails n) = settled d (s .flags) false
-conclude d s (Refused r) = Refuse r
+conclude d s (Refused f) = Refuse f

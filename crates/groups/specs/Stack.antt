@@ -6,6 +6,7 @@ use mathlib.Core.Bool.{Bool, true, false}
 use mathlib.Core.List.{List, [], _∷_}
 use lib.ListN.{getD}
 use lib.Dec.{eqb}
+use Rattle.units.specs.Refusals.{unplaced}
 use Rattle.text.specs.Bytes.{pick}
 use Rattle.groups.specs.Rules.{MAX-GROUPS}
 use Rattle.groups.specs.Groups.{Group, group, State, state, Outcome, go, stop}
@@ -51,9 +52,9 @@ Suits (Stay m) k = Unit
 Suits (Push m f) k = k < MAX-GROUPS
 Suits (Replace m f) k = 0 < k
 Suits (Pop m) k = 0 < k
-Suits (Refuse r) k = Unit
+Suits (Refuse f) k = Unit
 
 -- the step of the code from a selection x has this outcome; a refusal returns x
 abbrev pub Meets : (x : Selection) → Step → Outcome → Type 0
-Meets x z (go m s) = (z .ok ≡ true) × (z .mark ≡ m) × Represents (z .next) s × (z .number ≡ 0)
-Meets x z (stop r) = (z .ok ≡ false) × (z .number ≡ r) × (z .mark ≡ 0) × (z .next ≡ x)
+Meets x z (go m s) = (z .ok ≡ true) × (z .mark ≡ m) × Represents (z .next) s × (z .fault ≡ unplaced 0)
+Meets x z (stop f) = (z .ok ≡ false) × (z .fault ≡ f) × (z .mark ≡ 0) × (z .next ≡ x)

@@ -2,6 +2,8 @@
 pub mod rules;
 pub mod stack;
 
+use units::Fault;
+
 // What the rules know of a group.
 pub struct Flags {
     // the branch around the whole group is taken, or there is none around it
@@ -21,13 +23,13 @@ pub struct Innermost {
     pub flags: Flags,
 }
 
-// What a line does to the open groups, with its mark, or the number of its refusal.
+// What a line does to the open groups, with its mark, or its refusal.
 pub enum Transition {
     Stay(u8),
     Push(u8, Flags),
     Replace(u8, Flags),
     Pop(u8),
-    Refuse(u8),
+    Refuse(Fault),
 }
 
 // Whether a directive is read, and what it does if not.
@@ -47,11 +49,12 @@ pub struct Selection {
     pub lines: [u16; 16],
 }
 
-// The outcome of a line: its mark and the selection after it; or the number of the refusal, the selection before it and the mark 0.
+// The outcome of a line: its mark and the selection after it; or its refusal, the selection before it and the mark 0.
+// The refusal of a line that is not refused is 0 at place 0.
 pub struct Step {
     // first, so that it is copied as a whole
     pub next: Selection,
     pub ok: bool,
-    pub number: u8,
+    pub fault: Fault,
     pub mark: u8,
 }

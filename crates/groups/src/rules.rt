@@ -60,7 +60,7 @@ fn opening(s: Innermost) -> Plan
     ensures { λ r. ⌜ r ≡ openingOf s ⌝ }
 {
     if MAX_GROUPS <= s.depth {
-        return Plan::Unread(Transition::Refuse(units::NESTING_DEEP));
+        return Plan::Unread(Transition::Refuse(units::unplaced(units::NESTING_DEEP)));
     }
     if s.flags.taken {
         Plan::Read
@@ -75,7 +75,7 @@ pub fn plan(d: Directive, s: Innermost) -> Plan
     ensures { λ r. ⌜ r ≡ planOf d s ⌝ }
 {
     let f = s.flags;
-    let stray = Plan::Unread(Transition::Refuse(units::DIRECTIVE_STRAY));
+    let stray = Plan::Unread(Transition::Refuse(units::unplaced(units::DIRECTIVE_STRAY)));
     match d {
         Directive::Plain => Plan::Unread(Transition::Stay(plain_mark(s))),
         Directive::If => opening(s),
@@ -111,7 +111,9 @@ pub fn plan(d: Directive, s: Innermost) -> Plan
                 Plan::Unread(Transition::Pop(UNREAD))
             }
         }
-        Directive::Unknown => Plan::Unread(Transition::Refuse(units::WORD_UNKNOWN)),
+        Directive::Unknown => Plan::Unread(Transition::Refuse(units::unplaced(
+            units::WORD_UNKNOWN,
+        ))),
     }
 }
 
@@ -149,6 +151,6 @@ pub fn conclude(d: Directive, s: Innermost, c: Condition) -> Transition
     match c {
         Condition::Holds(_) => settle(d, f, true),
         Condition::Fails(_) => settle(d, f, false),
-        Condition::Refused(number) => Transition::Refuse(number),
+        Condition::Refused(f) => Transition::Refuse(f),
     }
 }

@@ -5,6 +5,7 @@ use crate::Selection;
 use crate::Step;
 use crate::Transition;
 use crate::rules;
+use units::Fault;
 use units::LineNumber;
 ghost use mathlib.Core.Path.{_≡_};
 ghost use Prim.Native.Nat.{_+_, _^_, _≤_, _<_};
@@ -44,12 +45,12 @@ pub fn innermost(x: Selection) -> Innermost
 const BELOW_TOP: u64 = 1152921504606846976;
 
 // A line that is refused.
-pub fn refused(number: u8, x: Selection) -> Step
-    ensures { λ r. ⌜ Meets x r (stop number) ⌝ }
+pub fn refused(fault: Fault, x: Selection) -> Step
+    ensures { λ r. ⌜ Meets x r (stop fault) ⌝ }
 {
     Step {
         ok: false,
-        number,
+        fault,
         mark: 0,
         next: x,
     }
@@ -61,13 +62,14 @@ pub fn apply(r: Transition, n: LineNumber, count: usize, x: Selection) -> Step
     ensures { λ z. ⌜ Meets x z (applied r (n .0) count (denoteSelection x)) ⌝ }
 {
     let depth = x.depth;
+    let none = units::unplaced(0);
     let mut y = x;
     y.count = x.count + count;
     match r {
         Transition::Stay(mark) => Step {
             next: y,
             ok: true,
-            number: 0,
+            fault: none,
             mark,
         },
         Transition::Push(mark, f) => {
@@ -77,7 +79,7 @@ pub fn apply(r: Transition, n: LineNumber, count: usize, x: Selection) -> Step
             Step {
                 next: y,
                 ok: true,
-                number: 0,
+                fault: none,
                 mark,
             }
         }
@@ -86,7 +88,7 @@ pub fn apply(r: Transition, n: LineNumber, count: usize, x: Selection) -> Step
             Step {
                 next: y,
                 ok: true,
-                number: 0,
+                fault: none,
                 mark,
             }
         }
@@ -96,10 +98,10 @@ pub fn apply(r: Transition, n: LineNumber, count: usize, x: Selection) -> Step
             Step {
                 next: y,
                 ok: true,
-                number: 0,
+                fault: none,
                 mark,
             }
         }
-        Transition::Refuse(number) => refused(number, x),
+        Transition::Refuse(f) => refused(f, x),
     }
 }

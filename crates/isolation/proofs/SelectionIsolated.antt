@@ -9,8 +9,8 @@ use lib.ListN.{length, getD, take, drop}
 use lib.Seq.{take-at}
 use Rattle.units.specs.declared.Dialect.{Dialect}
 use Rattle.line.specs.Lines.{lines}
-use Rattle.line.specs.Directives.{directiveOf, textOf}
-use Rattle.condition.specs.Conditions.{evaluate}
+use Rattle.line.specs.Directives.{directiveOf, textStart, textOf}
+use Rattle.condition.specs.Conditions.{inLine, conditionOf}
 use Rattle.groups.specs.Rules.{plan}
 use Rattle.groups.specs.Groups.{innermost, State, go}
 use Rattle.groups.specs.declared.Plan.{Plan}
@@ -31,8 +31,8 @@ agree-like t₁ t₂ δ m l₁ l₂ h a =
     record {
       short = h;
       word = a .word;
-      condition = λ r. ap (λ l. evaluate t₂ (directiveOf l₁) (textOf l) δ) (a .bytes r) ∙ sym
-          (same-condition t₁ t₂ (textOf l₁) δ (directiveOf l₁) (a .records r));
+      condition = λ r. ap (λ l. conditionOf t₂ (directiveOf l₁) l δ) (a .bytes r) ∙ ap
+          (inLine (textStart l₁)) (sym (same-condition t₁ t₂ (textOf l₁) δ (directiveOf l₁) (a .records r)));
     }
 
 pub isolation : (δ : Dialect) (f₁ t₁ : List ℕ) (room₁ : ℕ) (ms : List ℕ) (c : ℕ) → selection f₁ t₁ room₁ δ ≡ accepted ms c
@@ -64,7 +64,7 @@ accepted-call : (f t : List ℕ) (δ : Dialect) (marks : List ℕ) (r : Answer) 
 accepted-call f t δ marks r left h n c e = by (selection f t (length marks) δ) refl
   where
     by : (w : Result) → selection f t (length marks) δ ≡ w → (selection f t (length marks) δ ≡ accepted (take n left) c) × (length (take n left) ≡ n)
-    by (refused k j) q = let z : _≡_ {A = ℕ} 0 1 = cc (h .answer) in absurd (omega arith)
+    by (refused x j) q = let z : _≡_ {A = ℕ} 0 1 = cc (h .answer) in absurd (omega arith)
     by (accepted ms d) q =
         let a : Accepted (record { 0 = n }) c ≡ Accepted (record { 0 = length ms }) d = sym e ∙ h .answer ∙ rw q in
         let i : length ms ≡ n = ap numberOfLines (sym a) in

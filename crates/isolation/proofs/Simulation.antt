@@ -6,8 +6,8 @@ use mathlib.Core.Path.{_≡_, refl, sym, _∙_}
 use mathlib.Core.List.{List, [], _∷_}
 use lib.ListN.{length, getD}
 use Rattle.units.specs.declared.Dialect.{Dialect}
-use Rattle.line.specs.Directives.{directiveOf, textOf}
-use Rattle.condition.specs.Conditions.{evaluate}
+use Rattle.line.specs.Directives.{directiveOf}
+use Rattle.condition.specs.Conditions.{conditionOf}
 use Rattle.groups.specs.Rules.{plan}
 use Rattle.groups.specs.Groups.{innermost, State, Outcome, go, stop}
 use Rattle.groups.specs.declared.Plan.{Plan}
@@ -21,12 +21,12 @@ use Rattle.select.specs.Select.{Result, accepted, refused, prepend, after, run}
 pub record Like (t₁ t₂ : List ℕ) (δ : Dialect) (m : ℕ) (l₁ l₂ : List ℕ) : Type 0 where
   pub short : length l₂ ≤ 1024
   pub word : directiveOf l₂ ≡ directiveOf l₁
-  pub condition : 3 ≤ m → evaluate t₂ (directiveOf l₁) (textOf l₂) δ ≡ evaluate t₁ (directiveOf l₁) (textOf l₁) δ
+  pub condition : 3 ≤ m → conditionOf t₂ (directiveOf l₁) l₂ δ ≡ conditionOf t₁ (directiveOf l₁) l₁ δ
 
 module _ (t₁ t₂ : List ℕ) (δ : Dialect) (n : ℕ) (s : State) (l₁ l₂ : List ℕ) (m : ℕ) (s′ : State) (like : Like t₁ t₂ δ m l₁ l₂) where
   -- the condition has an effect only if the directive is read, and then both lines make the same one
   same-planned : (p : Plan) → Marked t₁ δ n s l₁ p (go m s′)
-      → planned p (directiveOf l₁) (evaluate t₂ (directiveOf l₁) (textOf l₂) δ) n s ≡ planned p (directiveOf l₁) (said t₁ δ n s l₁) n s
+      → planned p (directiveOf l₁) (conditionOf t₂ (directiveOf l₁) l₂ δ) n s ≡ planned p (directiveOf l₁) (said t₁ δ n s l₁) n s
   same-planned Read h = rw (like .condition (h .0))
   same-planned (Unread r) h = refl
 
@@ -50,7 +50,7 @@ module _ (t₁ t₂ : List ℕ) (δ : Dialect) (n : ℕ) (s : State) (l₁ l₂ 
   Second = after (step t₂ n s l₂ δ) n (λ s′. run t₂ (n + 1) s′ ls₂ δ) ≡ accepted ms c
 
   same-rest : (m : ℕ) (s′ : State) → step t₁ n s l₁ δ ≡ go m s′ → (r : Result) → run t₁ (n + 1) s′ ls₁ δ ≡ r → prepend m r ≡ accepted ms c → Second
-  same-rest m s′ q (refused k j) z h = never Second k j ms c h
+  same-rest m s′ q (refused x j) z h = never Second x j ms c h
   same-rest m s′ q (accepted ms′ c′) z h =
       let f : ms ≡ m ∷ ms′ = cc in
       let b : AllLike t₁ t₂ δ (m ∷ ms′) (l₁ ∷ ls₁) (l₂ ∷ ls₂) = rw f at a in
@@ -59,7 +59,7 @@ module _ (t₁ t₂ : List ℕ) (δ : Dialect) (n : ℕ) (s : State) (l₁ l₂ 
       rw (w, i) h
 
   same-first : (o : Outcome) → step t₁ n s l₁ δ ≡ o → after o n (λ s′. run t₁ (n + 1) s′ ls₁ δ) ≡ accepted ms c → Second
-  same-first (stop k) q h = never Second k n ms c h
+  same-first (stop x) q h = never Second x n ms c h
   same-first (go m s′) q h = same-rest m s′ q (run t₁ (n + 1) s′ ls₁ δ) refl h
 
 pub same-run : (t₁ t₂ : List ℕ) (δ : Dialect) (n : ℕ) (s : State) (ls₁ ls₂ : List (List ℕ)) (ms : List ℕ) (c : ℕ)

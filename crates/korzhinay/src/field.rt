@@ -1,17 +1,17 @@
 // The bytes of a data field.
 ghost use Rattle.marshal.specs.Calls.{Fills};
 
-// The bytes of a data field: 0, the length of the field in `written`, and the field at the front of `buffer`; or the refusal number, a
-// length of 0, and `buffer` as it was.
+// The bytes of a data field: 0, the length of the field in `out`, and the field at the front of `buffer`; or the refusal number, its offset in
+// `out`, and `buffer` as it was.
 #[no_mangle]
 pub extern "C" fn korzhinay_field<'a>(
     buffer: &mut [u8],
     expr: &'a [u8],
     table: &'a [u8],
     datum: u8,
-    written: &mut u64,
+    out: &mut [u64; 2],
 ) -> u8
-    ensures { λ r. ⌜ Fills (now (expr .entry)) (now (table .entry)) datum (now (buffer .entry)) r (now (written .exit)) (now (buffer .exit)) ⌝ }
+    ensures { λ r. ⌜ Fills (now (expr .entry)) (now (table .entry)) datum (now (buffer .entry)) (now (out .entry)) r (now (buffer .exit)) (now (out .exit)) ⌝ }
 {
-    marshal::fields::fill(buffer, expr, table, datum, written)
+    marshal::fields::fill(buffer, expr, table, datum, out)
 }

@@ -1,14 +1,14 @@
 // The selection of lines.
 ghost use Rattle.marshal.specs.Calls.{Marks};
 
-// Marks the lines of a file: 0, and the number of lines and the sum of counts in `out`; or the refusal number, its line in `out`, and every
-// mark 255.
+// Marks the lines of a file: 0, and the number of lines and the sum of counts in `out`; or the refusal number, its line and its offset there
+// in `out`, and every mark 255.
 #[no_mangle]
 pub extern "C" fn korzhinay_select<'a>(
     marks: &mut [u8],
     file: &'a [u8],
     table: &'a [u8],
-    out: &mut [u64; 3],
+    out: &mut [u64; 4],
 ) -> u8
     ensures { λ r. ⌜ Marks (now (file .entry)) (now (table .entry)) (now (marks .entry)) (now (out .entry)) r (now (marks .exit)) (now (out .exit)) ⌝ }
 {

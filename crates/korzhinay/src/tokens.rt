@@ -3,11 +3,12 @@ ghost use Rattle.units.specs.Dialects.{STRICT};
 ghost use Rattle.token.specs.Tokens.{reading};
 ghost use Rattle.marshal.specs.Calls.{Lists};
 
-// The tokens of an expression: the refusal number or 0, the number of tokens that were read, and their codes, starts, lengths and values.
+// The tokens of an expression: the refusal number or 0, the number of tokens that were read, the offset of the refusal or 0, and the codes,
+// starts, lengths and values of the tokens.
 #[no_mangle]
 pub extern "C" fn korzhinay_tokens(
     expr: &[u8],
-    out: &mut [u64; 2],
+    out: &mut [u64; 3],
     codes: &mut [u8; 200],
     starts: &mut [u16; 200],
     lens: &mut [u16; 200],

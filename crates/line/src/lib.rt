@@ -2,6 +2,7 @@
 pub mod cut;
 pub mod word;
 
+use units::Fault;
 use units::Offset;
 
 // The directive of a line by its word, or that the line is plain.
@@ -22,10 +23,10 @@ pub struct Head {
     pub text: Offset,
 }
 
-// The condition of a directive: it holds or fails, with the number of operators that were applied, or the number of the refusal. The crate
-// `condition` evaluates it.
+// The condition of a directive: it holds or fails, with the number of operators that were applied, or it is refused, with the place in the
+// text after the word or in the line. The crate `condition` evaluates it.
 pub enum Condition {
     Holds(usize),
     Fails(usize),
-    Refused(u8),
+    Refused(Fault),
 }

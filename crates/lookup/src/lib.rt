@@ -1,5 +1,6 @@
 // The setting under a name in a table of settings.
 use text::eight;
+use units::Fault;
 use units::Offset;
 ghost use mathlib.Core.Path.{_≡_};
 ghost use Prim.Native.Nat.{_+_, _^_, _<_};
@@ -25,11 +26,11 @@ pub enum TextKind {
     Wide,
 }
 
-// A value, or the number of the refusal that evaluation met first.
+// A value, or the fault that evaluation met first.
 pub enum Value {
     Number(u64),
     Text(TextKind, Place),
-    Fault(u8),
+    Fault(Fault),
 }
 
 // Whether a name is set, and its value: the number 0 if it is not.

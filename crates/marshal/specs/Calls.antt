@@ -19,8 +19,8 @@ use Rattle.value.specs.Kinds.{kindNumber, ofText}
 use Rattle.token.specs.Tokens.{Reading, Stored}
 use Rattle.token.specs.declared.scan.Ending.{Ending}
 use Rattle.token.specs.declared.scan.Ending.the-variants.{Complete, Refused}
-use Rattle.evaluation.specs.Evaluation.{Evaluation, refusalNumber, kindNumberOf, numberOf, countOf, placeOf, evaluation}
-use Rattle.select.specs.Select.{selection, answerOf, refusalNumber as selectionNumber, lineOf, numberOfLines, countOf as selectionCount, marksOf}
+use Rattle.evaluation.specs.Evaluation.{Evaluation, refusalNumber, offsetOf as refusalOffset, kindNumberOf, numberOf, countOf, placeOf, evaluation}
+use Rattle.select.specs.Select.{selection, answerOf, refusalNumber as selectionNumber, lineOf, offsetOf, numberOfLines, countOf as selectionCount, marksOf}
 use Rattle.select.specs.declared.Answer.{Answer}
 use Rattle.datum.specs.declared.Written.{Written}
 use Rattle.datum.specs.declared.Written.the-variants.{Length, Refused as Unwritten}
@@ -42,12 +42,17 @@ pub record Shows (t n out : List ℕ) (r : ℕ) (out′ : List ℕ) : Type 0 whe
 
 -- the refusal number of an ending, 0 if nothing was refused
 abbrev pub endingNumber : Ending → ℕ
-endingNumber Complete = 0
+endingNumber (Complete end) = 0
 endingNumber (Refused r) = r .number
 
--- the tokens: the arrays hold the refusal number of the reading, the number of tokens that were read, and the tokens
+-- the offset of the refusal, 0 if nothing was refused
+abbrev pub endingOffset : Ending → ℕ
+endingOffset (Complete end) = 0
+endingOffset (Refused r) = r .offset .0
+
+-- the tokens: the arrays hold the refusal number of the reading, the number of tokens that were read, the offset of the refusal, and the tokens
 pub record Lists (read : Reading) (out codes starts lens values out′ codes′ starts′ lens′ values′ : List ℕ) : Type 0 where
-  pub head : out′ ≡ stored (endingNumber (read .ending) ∷ length (read .tokens) ∷ []) out
+  pub head : out′ ≡ stored (endingNumber (read .ending) ∷ length (read .tokens) ∷ endingOffset (read .ending) ∷ []) out
   pub tokens : Stored read codes starts lens values codes′ starts′ lens′ values′
 
 -- the home of a string as a number
@@ -55,11 +60,11 @@ abbrev pub homeNumber : Home → ℕ
 homeNumber Expression = 0
 homeNumber Table = 1
 
--- The answer to an expression as six numbers: the kind, the number, the count of operators, and the place of a string: 1 for the table and
--- 0 for the expression, its start, its length. The line of the answer is always 0 and is not among them.
+-- The answer to an expression as seven numbers: the kind, the number, the count of operators, the place of a string, which is 1 for the table
+-- and 0 for the expression, its start and its length, and the offset of a refusal. The line of the answer is always 0 and is not among them.
 abbrev pub answerShown : Evaluation → List ℕ
 answerShown a =
-    kindNumberOf a ∷ numberOf a ∷ countOf a ∷ homeNumber (placeOf a .home) ∷ placeOf a .start .0 ∷ placeOf a .len ∷ []
+    kindNumberOf a ∷ numberOf a ∷ countOf a ∷ homeNumber (placeOf a .home) ∷ placeOf a .start .0 ∷ placeOf a .len ∷ refusalOffset a ∷ []
 
 -- the answer to an expression e over a table t: the number of the refusal, 0 with a value, and the array
 pub record Answers (e t out : List ℕ) (r : ℕ) (out′ : List ℕ) : Type 0 where
@@ -76,15 +81,24 @@ abbrev pub writtenLength : Written → ℕ
 writtenLength (Length n) = n
 writtenLength (Unwritten r) = 0
 
--- the field of an expression e over a table t: the number, the length, and the buffer
-pub record Fills (e t : List ℕ) (datum : ℕ) (buffer : List ℕ) (r written : ℕ) (buffer′ : List ℕ) : Type 0 where
+-- the offset of the refusal, 0 if the field was written
+abbrev pub writtenOffset : Written → ℕ
+writtenOffset (Length n) = 0
+writtenOffset (Unwritten r) = r .offset .0
+
+-- the answer of a data field as two numbers: its length and the offset of a refusal
+abbrev pub fieldShown : Written → List ℕ
+fieldShown w = writtenLength w ∷ writtenOffset w ∷ []
+
+-- the field of an expression e over a table t: the number, the array with the length and the offset, and the buffer
+pub record Fills (e t : List ℕ) (datum : ℕ) (buffer out : List ℕ) (r : ℕ) (buffer′ out′ : List ℕ) : Type 0 where
   pub refused-with : r ≡ writtenNumber (fieldOf (over e t) datum buffer STRICT .answer)
-  pub length-is : written ≡ writtenLength (fieldOf (over e t) datum buffer STRICT .answer)
+  pub shown : out′ ≡ stored (fieldShown (fieldOf (over e t) datum buffer STRICT .answer)) out
   pub buffer-is : buffer′ ≡ fieldOf (over e t) datum buffer STRICT .buffer
 
--- the answer of a selection as three numbers: the line of a refusal, the number of lines, the sum of counts
+-- the answer of a selection as four numbers: the line of a refusal, the number of lines, the sum of counts, the offset of a refusal in its line
 abbrev pub selectionShown : Answer → List ℕ
-selectionShown a = lineOf a ∷ numberOfLines a ∷ selectionCount a ∷ []
+selectionShown a = lineOf a ∷ numberOfLines a ∷ selectionCount a ∷ offsetOf a ∷ []
 
 -- the selection of a file f over a table t
 pub record Marks (f t marks out : List ℕ) (r : ℕ) (marks′ out′ : List ℕ) : Type 0 where

@@ -1,26 +1,41 @@
 // The call that lists the tokens of an expression.
+use crate::numbers;
 use token::scan;
 use token::scan::Ending;
 use units::Dialect;
 ghost use mathlib.Core.Path.{_≡_};
 ghost use Rattle.token.specs.Tokens.{reading};
 ghost use Rattle.units.specs.Dialects.{STRICT};
-ghost use Rattle.marshal.specs.Calls.{Lists, endingNumber};
+ghost use Rattle.marshal.specs.Calls.{Lists, endingNumber, endingOffset};
 
 // The refusal number of an ending, 0 if nothing was refused.
 fn number_of(ending: Ending) -> u8
     ensures { λ r. ⌜ r ≡ endingNumber ending ⌝ }
 {
     match ending {
-        Ending::Complete => 0,
+        Ending::Complete(_) => 0,
         Ending::Refused(r) => r.number,
     }
 }
 
-// The tokens of an expression: the refusal number or 0, the number of tokens that were read, and their codes, starts, lengths and values.
+// The offset of the refusal of an ending, 0 if nothing was refused.
+fn offset_of(ending: Ending) -> usize
+    ensures { λ r. ⌜ r ≡ endingOffset ending ⌝ }
+{
+    match ending {
+        Ending::Complete(_) => 0,
+        Ending::Refused(r) => {
+            let at = r.offset;
+            at.0
+        }
+    }
+}
+
+// The tokens of an expression: the refusal number or 0, the number of tokens that were read, the offset of the refusal or 0, and the codes,
+// starts, lengths and values of the tokens.
 pub fn list(
     expr: &[u8],
-    out: &mut [u64; 2],
+    out: &mut [u64; 3],
     codes: &mut [u8; 200],
     starts: &mut [u16; 200],
     lens: &mut [u16; 200],
@@ -31,6 +46,7 @@ pub fn list(
     let s = scan::tokens(codes, starts, lens, values, expr, Dialect { bars: false });
     let read = s.tokens;
     let ending = s.ending;
-    out[0] = number_of(ending) as u64;
-    out[1] = read.0 as u64;
+    let number = number_of(ending) as u64;
+    let offset = offset_of(ending) as u64;
+    numbers::store(out, number, read.0 as u64, offset);
 }

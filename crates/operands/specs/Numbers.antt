@@ -1,8 +1,9 @@
 -- An operand as six numbers. Contracts between layers cite this; no promise does.
-use Prim.Native.Nat.{ℕ}
+use Prim.Native.Nat.{ℕ, _-_}
 use mathlib.Core.List.{List}
 use lib.ListN.{getD}
-use lib.Dec.{eqb, ltb}
+use lib.Dec.{eqb, ltb, leb}
+use Rattle.units.specs.Refusals.{faultAt}
 use Rattle.text.specs.Bytes.{pick}
 use Rattle.lookup.specs.declared.Home.{Home}
 use Rattle.lookup.specs.declared.Home.the-variants.{Expression, Table}
@@ -15,8 +16,9 @@ use Rattle.value.specs.declared.Kind.the-variants.{Number as NumberKind, String
 use Rattle.value.specs.declared.Attributes.{Attributes as CodedAttributes}
 use Rattle.operands.specs.declared.numbers.Shaped.{Shaped}
 
+-- a kind by its number: 0 a number, 1 a string, 2 a wide string; from 3 on a clash, whose place comes on top
 abbrev pub kindIn : ℕ → Kind
-kindIn n = pick (eqb n 0) NumberKind (pick (eqb n 1) StringKind (pick (eqb n 2) WideKind Clash))
+kindIn n = pick (eqb n 0) NumberKind (pick (leb 3 n) (Clash (pick (ltb (n - 3) 65536) (n - 3) 0)) (pick (eqb n 1) StringKind WideKind))
 
 abbrev pub homeIn : ℕ → Home
 homeIn n = pick (eqb n 0) Expression Table
@@ -30,7 +32,7 @@ abbrev pub valueIn : Shaped → CodedValue
 valueIn s =
     pick (eqb (s .shape) 0) (Number (s .first))
     (pick (eqb (s .shape) 1) (Text String (placeIn s))
-    (pick (eqb (s .shape) 2) (Text Wide (placeIn s)) (Fault (pick (ltb (s .first) 256) (s .first) 0))))
+    (pick (eqb (s .shape) 2) (Text Wide (placeIn s)) (Fault (faultAt (pick (ltb (s .first) 256) (s .first) 0) (s .len)))))
 
 -- kind, shape, number or start, length, home, number of operators
 abbrev pub operandIn : List ℕ → CodedAttributes

@@ -3,16 +3,19 @@ use lookup::Home;
 use lookup::Place;
 use lookup::TextKind;
 use lookup::Value;
+use units::Fault;
 use units::Offset;
 use value::Attributes;
 use value::Kind;
+use value::kinds;
 ghost use mathlib.Core.Path.{_≡_};
 ghost use lib.Dec.{ltb};
 ghost use Rattle.text.specs.Bytes.{pick};
 ghost use Rattle.lookup.specs.declared.Value.the-variants.{Text};
 ghost use Rattle.operands.specs.Numbers.{kindIn, homeIn, placeIn, valueIn, operandIn};
 
-// The numbers of a value: its shape, its number or the start of its string, and the length and the home of the string.
+// The numbers of a value: its shape, its number or the start of its string, and the length and the home of the string; or the number and the
+// place of a fault.
 pub struct Shaped {
     pub shape: usize,
     pub first: usize,
@@ -20,26 +23,40 @@ pub struct Shaped {
     pub home: usize,
 }
 
+// 0 to 2; from 3 on a clash, whose place comes on top.
 fn number_of_kind(k: Kind) -> usize
     ensures { λ r. ⌜ kindIn r ≡ k ⌝ }
 {
+    // most operands are numbers
+    if kinds::is_number(k) {
+        return 0;
+    }
     match k {
+        Kind::Clash(p) => p as usize + 3,
         Kind::Number => 0,
         Kind::String => 1,
         Kind::Wide => 2,
-        Kind::Clash => 3,
     }
+}
+
+// The place of a clash. It is below 2^16 if a clash was stored.
+fn clash_in(n: usize) -> u16
+    ensures { λ r. ⌜ r ≡ pick (ltb n 65536) n 0 ⌝ }
+{
+    if n < 65536 { n as u16 } else { 0 }
 }
 
 fn kind_in(n: usize) -> Kind
     ensures { λ r. ⌜ r ≡ kindIn n ⌝ }
 {
-    match n {
-        0 => Kind::Number,
-        1 => Kind::String,
-        2 => Kind::Wide,
-        _ => Kind::Clash,
+    // most operands are numbers
+    if n == 0 {
+        return Kind::Number;
     }
+    if 3 <= n {
+        return Kind::Clash(clash_in(n - 3));
+    }
+    if n == 1 { Kind::String } else { Kind::Wide }
 }
 
 fn number_of_home(h: Home) -> usize
@@ -94,12 +111,15 @@ fn shape_of(v: Value) -> Shaped
             home: 0,
         },
         Value::Text(k, p) => shape_of_text(k, p),
-        Value::Fault(number) => Shaped {
-            shape: 3,
-            first: number as usize,
-            len: 0,
-            home: 0,
-        },
+        Value::Fault(f) => {
+            let at = f.at;
+            Shaped {
+                shape: 3,
+                first: f.number as usize,
+                len: at.0,
+                home: 0,
+            }
+        }
     }
 }
 
@@ -113,17 +133,22 @@ fn fault_in(n: usize) -> u8
 fn value_in(s: Shaped) -> Value
     ensures { λ r. ⌜ r ≡ valueIn s ⌝ }
 {
+    let shape = s.shape;
+    if shape == 0 {
+        return Value::Number(s.first as u64);
+    }
     let p = Place {
         home: home_in(s.home),
         start: Offset(s.first),
         len: s.len,
     };
-    let shape = s.shape;
     match shape {
-        0 => Value::Number(s.first as u64),
         1 => Value::Text(TextKind::String, p),
         2 => Value::Text(TextKind::Wide, p),
-        _ => Value::Fault(fault_in(s.first)),
+        _ => Value::Fault(Fault {
+            number: fault_in(s.first),
+            at: Offset(s.len),
+        }),
     }
 }
 

@@ -13,6 +13,6 @@ module _ (n count states : ℕ) (ls : List ℕ) where
   no-group d e = rw e
 
   pub top-line : (depth : ℕ) → (depth ≡ 0 → ⊥)
-      → Refused (record { number = 21; line = record { 0 = getD ls (depth - 1) 0 } }) ≡ ends n (groupsIn depth states ls) count
+      → Refused (record { number = 21; line = record { 0 = getD ls (depth - 1) 0 }; offset = record { 0 = 0 } }) ≡ ends n (groupsIn depth states ls) count
   top-line zero h = absurd (h refl)
   top-line (suc d) h = let e : suc d - 1 ≡ d = omega arith in rw e

@@ -8,6 +8,8 @@ use lib.ListN.{length}
 use lib.Dec.{ltb}
 use borrow.Author.Tests.{lt-ltb, le-ltb, ltb-false}
 use Rattle.units.specs.declared.Dialect.{Dialect}
+use Rattle.units.specs.declared.Fault.{Fault}
+use Rattle.units.specs.Refusals.{unplaced}
 use Rattle.text.specs.Bytes.{pick}
 use Rattle.settings.specs.Table.{wellFormed}
 use Rattle.line.specs.Lines.{lines}
@@ -16,7 +18,7 @@ use Rattle.select.specs.Running.{ChecksLimits}
 
 module _ (f t : List ℕ) (δ : Dialect) (room : ℕ) where
   -- a refusal with a number that is not 0
-  refuses : (r : ℕ) → (r ≡ 0 → ⊥) → selection f t room δ ≡ refused r 0 → ChecksLimits f t room r δ
+  refuses : (r : ℕ) → (r ≡ 0 → ⊥) → selection f t room δ ≡ refused (unplaced r) 0 → ChecksLimits f t room r δ
   refuses r h e = record { refuses = λ _. e; passes = λ z. absurd (h z) }
 
   pub malformed : wellFormed t ≡ false → ChecksLimits f t room 1 δ
@@ -46,9 +48,13 @@ module _ (f t : List ℕ) (δ : Dialect) (room : ℕ) where
         pub fit : length (lines f) ≤ room → ChecksLimits f t room 0 δ
         fit h = record { refuses = λ z. absurd (z refl); passes = λ _. record { well-formed = sound; few = few; enough = h; runs = runs h } }
 
+-- a refusal before any line
+abbrev before : ℕ → Result
+before k = refused (unplaced k) 0
+
 -- a refusal is not accepted
-pub never : (A : Type 0) (k n : ℕ) (ms : List ℕ) (c : ℕ) → refused k n ≡ accepted ms c → A
-never A k n ms c e = let z : _≡_ {A = ℕ} 0 1 = cc in absurd (omega arith)
+pub never : (A : Type 0) (x : Fault) (n : ℕ) (ms : List ℕ) (c : ℕ) → refused x n ≡ accepted ms c → A
+never A x n ms c e = let z : _≡_ {A = ℕ} 0 1 = cc in absurd (omega arith)
 
 -- an accepted selection passed every check before its lines
 pub accepted-runs : (f t : List ℕ) (δ : Dialect) (room : ℕ) (ms : List ℕ) (c : ℕ) → selection f t room δ ≡ accepted ms c
@@ -58,18 +64,18 @@ accepted-runs f t δ room ms c h =
     by (wellFormed t) (ltb 65536 (length f)) (ltb 4096 (length (lines f))) refl (ltb room (length (lines f))) h
   where
     by : (a b d : Bool) → ltb 4096 (length (lines f)) ≡ d → (e : Bool)
-        → pick a (pick b (refused 14 0) (pick d (refused 15 0) (pick e (refused 16 0) (run t 1 start (lines f) δ)))) (refused 1 0) ≡ accepted ms c
+        → pick a (pick b (before 14) (pick d (before 15) (pick e (before 16) (run t 1 start (lines f) δ)))) (before 1) ≡ accepted ms c
         → (run t 1 start (lines f) δ ≡ accepted ms c) × (length (lines f) ≤ 4096)
-    by true true d q e h = never _ 14 0 ms c h
-    by true false true q e h = never _ 15 0 ms c h
-    by true false false q true h = never _ 16 0 ms c h
+    by true true d q e h = never _ _ 0 ms c h
+    by true false true q e h = never _ _ 0 ms c h
+    by true false false q true h = never _ _ 0 ms c h
     by true false false q false h = (h, ltb-false 4096 (length (lines f)) q)
-    by false b d q e h = never _ 1 0 ms c h
+    by false b d q e h = never _ _ 0 ms c h
 
 pub accepted-well-formed : (f t : List ℕ) (δ : Dialect) (room : ℕ) (ms : List ℕ) (c : ℕ) → selection f t room δ ≡ accepted ms c → wellFormed t ≡ true
 unfolding selection
 accepted-well-formed f t δ room ms c h = by (wellFormed t) _ h
   where
-    by : (a : Bool) (x : Result) → pick a x (refused 1 0) ≡ accepted ms c → a ≡ true
+    by : (a : Bool) (x : Result) → pick a x (before 1) ≡ accepted ms c → a ≡ true
     by true x h = refl
-    by false x h = never _ 1 0 ms c h
+    by false x h = never _ _ 0 ms c h

@@ -13,7 +13,7 @@ use Rattle.select.proofs.LimitsCorrect.{accepted-runs}
 -- a result has n marks, if it is accepted
 abbrev Many : ℕ → Result → Type 0
 Many n (accepted ms c) = length ms ≡ n
-Many n (refused k l) = Unit
+Many n (refused x l) = Unit
 
 many-end : (gs : List Group) (c : ℕ) → Many 0 (atEnd gs c)
 many-end [] c = refl
@@ -21,7 +21,7 @@ many-end (g ∷ gs) c = tt
 
 many-more : (m n : ℕ) (r : Result) → Many n r → Many (suc n) (prepend m r)
 many-more m n (accepted ms c) h = ap suc h
-many-more m n (refused k l) h = tt
+many-more m n (refused x l) h = tt
 
 many-after : (o : Outcome) (n k : ℕ) (rest : State → Result) → ((s : State) → Many k (rest s)) → Many (suc k) (after o n rest)
 many-after (go m s) n k rest h = many-more m k (rest s) (h s)

@@ -4,6 +4,7 @@ use native.Mathlib.Omega.{arith}
 use mathlib.Core.Path.{_≡_, sym, ap, _∙_}
 use mathlib.Core.List.{List}
 use Rattle.units.specs.declared.Dialect.{Dialect}
+use Rattle.units.specs.declared.Fault.{Fault}
 use Rattle.line.specs.Lines.{lines}
 use Rattle.groups.specs.Rules.{KEPT, plainMark}
 use Rattle.groups.specs.Groups.{innermost, State}
@@ -15,9 +16,9 @@ use Rattle.select.specs.declared.Answer.{Answer}
 use Rattle.select.specs.declared.Answer.the-variants.{Refused}
 
 -- a refusal, whatever the marks
-pub refused-run : (f t : List ℕ) (δ : Dialect) (marks₀ marks : List ℕ) (r : Answer) (k n : ℕ) → run t 1 start (lines f) δ ≡ refused k n
-    → r ≡ Refused (record { number = k; line = record { 0 = n } }) → Runs f t marks₀ r marks δ
-refused-run f t δ marks₀ marks r k n w e =
+pub refused-run : (f t : List ℕ) (δ : Dialect) (marks₀ marks : List ℕ) (r : Answer) (x : Fault) (n : ℕ) → run t 1 start (lines f) δ ≡ refused x n
+    → r ≡ Refused (record { number = x .number; line = record { 0 = n }; offset = x .at }) → Runs f t marks₀ r marks δ
+refused-run f t δ marks₀ marks r x n w e =
     record { answer = e ∙ rw w; marked = λ ms c q. let i : _≡_ {A = ℕ} 0 1 = cc in absurd (omega arith) }
 
 -- before the first line no group is open, and a plain line is kept

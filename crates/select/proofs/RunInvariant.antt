@@ -9,6 +9,8 @@ use mathlib.Core.List.{List, [], _∷_, _++_, append-assoc}
 use lib.ListN.{length, getD, take, drop, set, length-append, length-drop, drop-of-length-le}
 use lib.Seq.{drop-cons, set-at, length-take-le}
 use Rattle.units.specs.declared.Dialect.{Dialect}
+use Rattle.units.specs.declared.Fault.{Fault}
+use Rattle.units.specs.Refusals.{unplaced}
 use Rattle.line.specs.Lines.{lines}
 use Rattle.line.specs.Directives.{directiveOf}
 use Rattle.line.specs.Cutting.{Cuts}
@@ -34,10 +36,10 @@ unfolding prepended
 prepended-accepted [] c = refl
 prepended-accepted (m ∷ ms) c = rw (prepended-accepted ms c)
 
-prepended-refused : (ms : List ℕ) (k n : ℕ) → prepended ms (refused k n) ≡ refused k n
+prepended-refused : (ms : List ℕ) (x : Fault) (n : ℕ) → prepended ms (refused x n) ≡ refused x n
 unfolding prepended
-prepended-refused [] k n = refl
-prepended-refused (m ∷ ms) k n = rw (prepended-refused ms k n)
+prepended-refused [] x n = refl
+prepended-refused (m ∷ ms) x n = rw (prepended-refused ms x n)
 
 prepended-one : (ms : List ℕ) (m : ℕ) (r : Result) → prepended ms (prepend m r) ≡ prepended (ms ++ m ∷ []) r
 unfolding prepended
@@ -93,10 +95,10 @@ module _ {f t : List ℕ} {δ : Dialect} {marks₀ : List ℕ} {x : Selection} {
 
     -- the outcome of its step
     module _ (z : Step) (meets : Meets x z (step t (n + 1) (denoteSelection x) line δ)) where
-      pub stops : z .ok ≡ false → run t 1 start (lines f) δ ≡ refused (z .number) (n + 1)
+      pub stops : z .ok ≡ false → run t 1 start (lines f) δ ≡ refused (z .fault) (n + 1)
       stops h = u .goes ∙ ap (prepended (u .done)) one-more ∙ by (step t (n + 1) (denoteSelection x) line δ) meets
         where
-          by : (o : Outcome) → Meets x z o → prepended (u .done) (after o (n + 1) (λ s. run t (n + 1 + 1) s others δ)) ≡ refused (z .number) (n + 1)
+          by : (o : Outcome) → Meets x z o → prepended (u .done) (after o (n + 1) (λ s. run t (n + 1 + 1) s others δ)) ≡ refused (z .fault) (n + 1)
           by (go m s) k = absurd (false≢true (sym h ∙ k .0))
           by (stop e) k = prepended-refused (u .done) e (n + 1) ∙ ap (λ i. refused i (n + 1)) (sym (k .1))
 
@@ -133,7 +135,7 @@ module _ {f t : List ℕ} {δ : Dialect} {marks₀ : List ℕ} {x : Selection} {
     passes-plain mark kept short plain room =
         let within : r .end .0 - at ≤ length (drop at f) = omega (arith, length-drop at f, cut .within) in
         let few : length line ≤ 1024 = omega (arith, length-take-le (r .end .0 - at) (drop at f) within, short) in
-        goes-on (record { next = x; ok = true; number = 0; mark = mark })
+        goes-on (record { next = x; ok = true; fault = unplaced 0; mark = mark })
         (rw (plain-step t δ (n + 1) (denoteSelection x) line few plain) (refl, kept, record { shallow = u .shallow; means = refl }, refl))
         room refl
 
@@ -158,5 +160,5 @@ module _ {f t : List ℕ} {δ : Dialect} {marks₀ : List ℕ} {x : Selection} {
               marked = λ ms c q. let p : u .done ≡ ms = cc in u .stored ∙ rw (← u .as-many, p);
             }
         by (a ∷ gs) g =
-            let w : run t 1 start (lines f) δ ≡ refused 21 (a .line) = ended ∙ rw g (prepended-refused (u .done) 21 (a .line)) in
+            let w : run t 1 start (lines f) δ ≡ refused (unplaced 21) (a .line) = ended ∙ rw g (prepended-refused (u .done) (unplaced 21) (a .line)) in
             record { answer = e ∙ rw (g, w); marked = λ ms c q. let i : _≡_ {A = ℕ} 0 1 = cc in absurd (omega arith) }

@@ -10,14 +10,16 @@ use lib.ListN.{length}
 use lib.Dec.{ltb}
 use borrow.Author.Tests.{lt-ltb, le-ltb, ltb-true, ltb-false}
 use Rattle.units.specs.declared.Dialect.{Dialect}
-use Rattle.units.specs.Refusals.{LINE-LONG}
+use Rattle.units.specs.declared.Fault.{Fault}
+use Rattle.units.specs.Refusals.{LINE-LONG, unplaced}
 use Rattle.text.proofs.Laws.{pick-case}
-use Rattle.line.specs.Directives.{directiveOf, textOf}
+use Rattle.line.specs.Directives.{directiveOf, textStart, textOf}
 use Rattle.line.specs.declared.Directive.{Directive}
 use Rattle.line.specs.declared.Directive.the-variants.{Plain}
 use Rattle.line.specs.declared.Condition.{Condition}
-use Rattle.condition.specs.Conditions.{evaluate, countOf}
+use Rattle.condition.specs.Conditions.{evaluate, countOf, conditionOf}
 use Rattle.condition.proofs.Counts.{count-small}
+use Rattle.condition.proofs.PlaceWithin.{same-count}
 use Rattle.groups.specs.Rules.{plainMark, plan, conclude}
 use Rattle.groups.specs.Groups.{innermost, State, Outcome, go, stop}
 use Rattle.groups.specs.Stack.{denoteSelection, Suits}
@@ -36,11 +38,14 @@ unfolding plan
 other-read d v h e = let k : plan Plain v ≡ Read = rw e at h in let z : _≡_ {A = ℕ} 0 1 = cc in omega arith
 
 module _ (t : List ℕ) (δ : Dialect) (n : ℕ) (s : State) (l : List ℕ) where
-  -- the condition that the text of the line makes
+  -- the condition of the line
   abbrev pub said : Condition
-  said = evaluate t (directiveOf l) (textOf l) δ
+  said = conditionOf t (directiveOf l) l δ
 
-  pub long-step : 1024 < length l → step t n s l δ ≡ stop LINE-LONG
+  pub said-small : countOf said < 200
+  said-small = rw (same-count (textStart l) (evaluate t (directiveOf l) (textOf l) δ)) (count-small t (directiveOf l) (textOf l) δ)
+
+  pub long-step : 1024 < length l → step t n s l δ ≡ stop (unplaced LINE-LONG)
   unfolding step
   long-step h = rw (lt-ltb 1024 (length l) h)
 
@@ -58,7 +63,7 @@ module _ (t : List ℕ) (δ : Dialect) (n : ℕ) (s : State) (l : List ℕ) wher
   plain-step h e = decided-step h ∙ rw (e, add-zero (s .count))
 
   -- a line with any other outcome is not too long
-  pub short-step : (o : Outcome) → step t n s l δ ≡ o → (o ≡ stop LINE-LONG → ⊥) → length l ≤ 1024
+  pub short-step : (o : Outcome) → step t n s l δ ≡ o → (o ≡ stop (unplaced LINE-LONG) → ⊥) → length l ≤ 1024
   short-step o e h = by (ltb 1024 (length l)) refl
     where
       by : (b : Bool) → ltb 1024 (length l) ≡ b → length l ≤ 1024
@@ -74,22 +79,22 @@ module _ (t : List ℕ) (δ : Dialect) (n : ℕ) (s : State) (l : List ℕ) wher
   planned-marked Read h = applied-shows Above (conclude (directiveOf l) (innermost (s .groups)) said) n (countOf said) s (h said .marks)
   planned-marked (Unread r) h = applied-shows Below r n 0 s (h .marks)
 
-  stop-marked : (p : Plan) (r : ℕ) → Marked p (stop r)
-  stop-marked Read r = tt
-  stop-marked (Unread q) r = tt
+  stop-marked : (p : Plan) (x : Fault) → Marked p (stop x)
+  stop-marked Read x = tt
+  stop-marked (Unread r) x = tt
 
   pub step-marked : Marked (plan (directiveOf l) (innermost (s .groups))) (step t n s l δ)
   unfolding step
   step-marked =
       let p : Plan = plan (directiveOf l) (innermost (s .groups)) in
-      pick-case (Marked p) (ltb 1024 (length l)) (λ _. stop-marked p LINE-LONG)
+      pick-case (Marked p) (ltb 1024 (length l)) (λ _. stop-marked p (unplaced LINE-LONG))
       (λ _. planned-marked p (suitable (directiveOf l) (innermost (s .groups))))
 
   pub step-small : (m : ℕ) (s′ : State) → step t n s l δ ≡ go m s′ → s′ .count < s .count + 200
   step-small m s′ e = by (plan (directiveOf l) (innermost (s .groups))) (rw e at step-marked)
     where
       by : (p : Plan) → Marked p (go m s′) → s′ .count < s .count + 200
-      by Read h = omega (arith, h .1, count-small t (directiveOf l) (textOf l) δ)
+      by Read h = omega (arith, h .1, said-small)
       by (Unread r) h = omega (arith, h .1)
 
 -- the code's plan of a directive, from its selection x, suits the number of open groups

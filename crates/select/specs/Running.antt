@@ -5,7 +5,7 @@ use mathlib.Core.Bool.{true}
 use mathlib.Core.List.{List, [], _∷_, _++_}
 use lib.ListN.{length, drop}
 use Rattle.units.specs.declared.Dialect.{Dialect}
-use Rattle.units.specs.Refusals.{FILE-UNFINISHED}
+use Rattle.units.specs.Refusals.{FILE-UNFINISHED, unplaced}
 use Rattle.settings.specs.Table.{wellFormed}
 use Rattle.line.specs.Lines.{lines}
 use Rattle.groups.specs.Rules.{plainMark}
@@ -19,7 +19,7 @@ use Rattle.select.specs.declared.Answer.the-variants.{Accepted, Refused}
 -- the answer after n lines, with these groups open
 abbrev pub ends : (n : ℕ) → List Group → (count : ℕ) → Answer
 ends n [] c = Accepted (record { 0 = n }) c
-ends n (g ∷ gs) c = Refused (record { number = FILE-UNFINISHED; line = record { 0 = g .line } })
+ends n (g ∷ gs) c = Refused (record { number = FILE-UNFINISHED; line = record { 0 = g .line }; offset = record { 0 = 0 } })
 
 -- the mark of a plain line, from the selection x of the code
 abbrev pub MarksPlain : (x : Selection) → (mark : ℕ) → Type 0
@@ -39,5 +39,5 @@ pub record WithinLimits (f t : List ℕ) (room : ℕ) (δ : Dialect) : Type 0 wh
 
 -- r is the number of the refusal before any line, 0 if there is none
 pub record ChecksLimits (f t : List ℕ) (room r : ℕ) (δ : Dialect) : Type 0 where
-  pub refuses : (r ≡ 0 → ⊥) → selection f t room δ ≡ refused r 0
+  pub refuses : (r ≡ 0 → ⊥) → selection f t room δ ≡ refused (unplaced r) 0
   pub passes : r ≡ 0 → WithinLimits f t room δ

@@ -5,12 +5,12 @@ use mathlib.Core.List.{List}
 use lib.ListN.{length}
 use lib.Dec.{ltb}
 use Rattle.units.specs.declared.Dialect.{Dialect}
-use Rattle.units.specs.Refusals.{LINE-LONG}
+use Rattle.units.specs.Refusals.{LINE-LONG, unplaced}
 use Rattle.text.specs.Bytes.{pick}
-use Rattle.line.specs.Directives.{directiveOf, textOf}
+use Rattle.line.specs.Directives.{directiveOf}
 use Rattle.line.specs.declared.Directive.{Directive}
 use Rattle.line.specs.declared.Condition.{Condition}
-use Rattle.condition.specs.Conditions.{evaluate, countOf}
+use Rattle.condition.specs.Conditions.{countOf, conditionOf}
 use Rattle.groups.specs.Rules.{plan, conclude}
 use Rattle.groups.specs.Groups.{innermost, State, Outcome, stop, applied}
 use Rattle.groups.specs.declared.Plan.{Plan}
@@ -31,4 +31,6 @@ decided d c n s = planned (plan d (innermost (s .groups))) d c n s
 
 -- line n, which is l, over a table t
 unfoldable pub step : (t : List ℕ) → (n : ℕ) → State → List ℕ → Dialect → Outcome
-step t n s l δ = pick (ltb MAX-LINE (length l)) (stop LINE-LONG) (decided (directiveOf l) (evaluate t (directiveOf l) (textOf l) δ) n s)
+step t n s l δ =
+    pick (ltb MAX-LINE (length l)) (stop (unplaced LINE-LONG))
+    (decided (directiveOf l) (conditionOf t (directiveOf l) l δ) n s)

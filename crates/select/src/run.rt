@@ -6,6 +6,7 @@ use groups::rules;
 use line::cut;
 use line::word;
 use units::Dialect;
+use units::Fault;
 use units::LineNumber;
 use units::Offset;
 use units::Refusal;
@@ -31,10 +32,16 @@ fn fresh() -> Selection
     }
 }
 
-pub fn refused(number: u8, line: LineNumber) -> Answer
-    ensures { λ r. ⌜ r ≡ Answer.Refused (record { number = number; line = line }) ⌝ }
+// A refusal at its place in a line.
+pub fn refused(f: Fault, line: LineNumber) -> Answer
+    ensures { λ r. ⌜ r ≡ Answer.Refused (record { number = f .number; line = line; offset = f .at }) ⌝ }
 {
-    Answer::Refused(Refusal { number, line })
+    let offset = f.at;
+    Answer::Refused(Refusal {
+        number: f.number,
+        line,
+        offset,
+    })
 }
 
 // The answer after the last of n lines: the selection is accepted if no group is open, else refused at the innermost open `!if`.
@@ -48,7 +55,7 @@ fn finish(x: Selection, n: LineNumber) -> Answer
     }
     let last = depth - 1;
     let line = x.lines[last] as usize;
-    refused(units::FILE_UNFINISHED, LineNumber(line))
+    refused(units::unplaced(units::FILE_UNFINISHED), LineNumber(line))
 }
 
 // Marks the lines of a file in order, up to the first that is refused.
@@ -76,7 +83,8 @@ pub fn run<'a>(marks: &mut [u8], file: &'a [u8], table: &'a [u8], dialect: Diale
             let z = step::step(table, line, x, &file[start..e], head, dialect);
             let ok = z.ok;
             if !ok {
-                return refused(z.number, line);
+                let fault = z.fault;
+                return refused(fault, line);
             }
             marks[i] = z.mark;
             let next = z.next;

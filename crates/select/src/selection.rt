@@ -44,7 +44,7 @@ pub fn select<'a>(marks: &mut [u8], file: &'a [u8], table: &'a [u8], dialect: Di
     let number = check_limits(file, table, marks.len());
     if number != 0 {
         uniform::fill(marks, REFUSED);
-        return run::refused(number, LineNumber(0));
+        return run::refused(units::unplaced(number), LineNumber(0));
     }
     let r = run::run(marks, file, table, dialect);
     match r {

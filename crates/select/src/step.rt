@@ -1,4 +1,5 @@
 // One line of a selection.
+use condition::places;
 use groups::Plan;
 use groups::Selection;
 use groups::Step;
@@ -65,7 +66,7 @@ pub fn step<'a>(
     ensures { λ z. ⌜ Meets x z (stepOf (now (table .entry)) (n .0) (denoteSelection x) (now (line .entry)) dialect) ⌝ }
 {
     if MAX_LINE < line.len() {
-        return stack::refused(units::LINE_LONG, x);
+        return stack::refused(units::unplaced(units::LINE_LONG), x);
     }
     let d = head.directive;
     let s = stack::innermost(x);
@@ -75,6 +76,7 @@ pub fn step<'a>(
         Plan::Read => {
             let from = head.text;
             let c = condition::evaluate(table, d, word::text(line, from), dialect);
+            let c = places::in_line(c, from);
             stack::apply(rules::conclude(d, s, c), n, count_of(c), x)
         }
     }

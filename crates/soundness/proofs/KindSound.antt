@@ -1,15 +1,14 @@
 -- If the kinds in an expression do not clash, its value has its kind, or evaluation met 11 or 12. One law for each form, from the same of
 -- its operands. Assumes nothing.
 use Prim.Native.Nat.{ℕ, _+_, _*_, _-_, _/_, _%_, _^_}
-use native.Mathlib.Omega.{arith}
 use mathlib.Core.Path.{_≡_, refl, sym, ap, _∙_}
 use mathlib.Core.Logic.{inl, inr}
-use mathlib.Core.Bool.{Bool, true, false, _&&_, and-false, false≢true}
+use mathlib.Core.Bool.{Bool, true, false, _&&_, false≢true}
 use lib.Dec.{eqb, ltb, leb}
-use borrow.Author.Tests.{eqb-true, ltb-true}
+use borrow.Author.Tests.{eqb-true}
 use Rattle.units.specs.Refusals.{RESULT-RANGE, DIVISOR-ZERO}
 use Rattle.text.specs.Bytes.{pick}
-use Rattle.text.proofs.Laws.{pick-case}
+use Rattle.text.proofs.Laws.{pick-case, and-left, and-right}
 use Rattle.token.specs.Tokens.{Token}
 use Rattle.arithmetic.specs.Operators.{Unary, negation, complement, minus, plus, applyUnary, unary, Binary, product, quotient, remainder, sum}
 use Rattle.arithmetic.specs.Operators.{difference, shift-left, shift-right, bit-and, bit-xor, bit-or, and, xor, or, applyBinary, binary}
@@ -18,7 +17,9 @@ use Rattle.arithmetic.specs.declared.Outcome.the-variants.{Number as Result, Re
 use Rattle.lookup.specs.declared.TextKind.{TextKind}
 use Rattle.lookup.specs.declared.TextKind.the-variants.{String as TextString, Wide as TextWide}
 use Rattle.value.specs.Places.{Memory}
-use Rattle.value.specs.Kinds.{kindNumber, ofText, isNumber, compares, suits, unaryKind, binaryKind, choiceKind}
+use Rattle.value.specs.Kinds.{kindNumber, ofText, isNumber, alikeKinds, compares, suits, clashes, clashOr}
+use Rattle.value.specs.Kinds.{unaryKind, binaryKind, choiceKind}
+use Rattle.value.proofs.Clashes.{no-clash, a-clash}
 use Rattle.value.specs.Values.{Value, number, text, fault, kindOf, RuntimeRefusal, HasKind, resultOf}
 use Rattle.value.specs.Values.{unaryValue, skips, bothValues, binaryValue, choiceValue}
 use Rattle.value.specs.Attributes.{Attributes, primaryOf, unaryFrom, binaryFrom, choiceFrom}
@@ -27,17 +28,17 @@ use Rattle.value.specs.declared.Kind.the-variants.{Number, String, Wide, Clash}
 
 -- attributes whose kind is no clash have a value of that kind, or a refusal of evaluation
 abbrev pub KindSound : Attributes → Type 0
-KindSound a = (a .kind ≡ Clash → ⊥) → HasKind (a .kind) (a .value)
+KindSound a = clashes (a .kind) ≡ false → HasKind (a .kind) (a .value)
 
 -- an outcome of arithmetic: a number, or a refusal of evaluation
 Timely : Outcome → Type 0
 Timely (Result x) = Unit
 Timely (Refused n) = RuntimeRefusal n
 
-result-suits : (r : Outcome) → Timely r → HasKind Number (resultOf r)
+result-suits : (at : ℕ) (r : Outcome) → Timely r → HasKind Number (resultOf at r)
 unfolding Timely
-result-suits (Result x) h = refl
-result-suits (Refused n) h = h
+result-suits at (Result x) h = refl
+result-suits at (Refused n) h = h
 
 either : (t : Bool) (r s : Outcome) → Timely r → Timely s → Timely (pick t r s)
 either true r s h k = h
@@ -74,11 +75,15 @@ applied-timely and x y = tt
 applied-timely xor x y = tt
 applied-timely or x y = tt
 
+-- no kind clashes and does not
+never : (k : Kind) → clashes k ≡ true → clashes k ≡ false → ⊥
+never k h n = false≢true (sym n ∙ h)
+
 -- a primary: its kind is that of its value
-leaf-suits : (v : Value) → (kindOf v ≡ Clash → ⊥) → HasKind (kindOf v) v
+leaf-suits : (v : Value) → clashes (kindOf v) ≡ false → HasKind (kindOf v) v
 leaf-suits (number x) n = refl
 leaf-suits (text k p s) n = refl
-leaf-suits (fault r) n = absurd (n refl)
+leaf-suits (fault f) n = absurd (false≢true (sym n))
 
 -- a string is no number
 text-number : (k : TextKind) → isNumber (ofText k) ≡ false
@@ -89,112 +94,153 @@ number-text : (k : TextKind) → eqb 0 (kindNumber (ofText k)) ≡ false
 number-text TextString = refl
 number-text TextWide = refl
 
-no-number : (k : TextKind) (j : Kind) → j ≡ ofText k → isNumber j ≡ true → ⊥
+pub no-number : (k : TextKind) (j : Kind) → j ≡ ofText k → isNumber j ≡ true → ⊥
 no-number k j e h = false≢true (sym (text-number k) ∙ ap isNumber (sym e) ∙ h)
 
 -- a unary operator: a number becomes a number
-number-suits : (o : ℕ) (v : Value) → HasKind Number v → HasKind Number (unaryValue o v)
+number-suits : (o at : ℕ) (v : Value) → HasKind Number v → HasKind Number (unaryValue o at v)
 unfolding unaryValue
-number-suits o (number x) h = result-suits (applyUnary (unary o) x) (changed-timely (unary o) x)
-number-suits o (text k p s) h = absurd (no-number k Number h refl)
-number-suits o (fault n) h = h
+number-suits o at (number x) h = result-suits at (applyUnary (unary o) x) (changed-timely (unary o) x)
+number-suits o at (text k p s) h = absurd (no-number k Number h refl)
+number-suits o at (fault f) h = h
 
-unary-suits : (o : ℕ) (k : Kind) (v : Value) → ((k ≡ Clash → ⊥) → HasKind k v) → (unaryKind k ≡ Clash → ⊥) → HasKind (unaryKind k) (unaryValue o v)
-unfolding unaryKind
-unary-suits o Number v h n = number-suits o v (h (λ e. omega (arith, ap kindNumber e)))
-unary-suits o String v h n = absurd (n refl)
-unary-suits o Wide v h n = absurd (n refl)
-unary-suits o Clash v h n = absurd (n refl)
+unary-suits : (o at : ℕ) (k : Kind) (v : Value) → (clashes k ≡ false → HasKind k v) → clashes (unaryKind at k) ≡ false
+    → HasKind (unaryKind at k) (unaryValue o at v)
+unfolding unaryKind clashOr
+unary-suits o at Number v h n = number-suits o at v (h refl)
+unary-suits o at String v h n = absurd (false≢true (sym n))
+unary-suits o at Wide v h n = absurd (false≢true (sym n))
+unary-suits o at (Clash p) v h n = absurd (false≢true (sym n))
 
--- a binary operator: kinds that clash
-mixed : (t : Bool) → pick (pick t false false) Number Clash ≡ Clash
+-- a binary operator whose kind is no clash: its operands suit it, and it gives a number
+pub record Suited (o at : ℕ) (j k : Kind) : Type 0 where
+  pub left : clashes j ≡ false
+  pub right : clashes k ≡ false
+  pub suit : suits o j k ≡ true
+  pub number : binaryKind o at j k ≡ Number
+
+pub suited : (o at : ℕ) (j k : Kind) → clashes (binaryKind o at j k) ≡ false → Suited o at j k
+unfolding binaryKind
+suited o at j k n = by-left (clashes j) refl
+  where
+    own : clashes j ≡ false → clashes k ≡ false → binaryKind o at j k ≡ pick (suits o j k) Number (Clash at)
+    own l r = no-clash j _ l ∙ no-clash k _ r
+
+    by-suit : clashes j ≡ false → clashes k ≡ false → (b : Bool) → suits o j k ≡ b → Suited o at j k
+    by-suit l r true e = record { left = l; right = r; suit = e; number = own l r ∙ rw e }
+    by-suit l r false e = absurd (never (binaryKind o at j k) (rw (own l r, e)) n)
+
+    by-right : clashes j ≡ false → (b : Bool) → clashes k ≡ b → Suited o at j k
+    by-right l false r = by-suit l r (suits o j k) refl
+    by-right l true r = absurd (never (binaryKind o at j k) (rw (no-clash j _ l, a-clash k _ r) r) n)
+
+    by-left : (b : Bool) → clashes j ≡ b → Suited o at j k
+    by-left false l = by-right l (clashes k) refl
+    by-left true l = absurd (never (binaryKind o at j k) (rw (a-clash j _ l) l) n)
+
+mixed : (t : Bool) → pick t false false ≡ false
 mixed true = refl
 mixed false = refl
 
-clash-left : (o : ℕ) (k : Kind) → binaryKind o Clash k ≡ Clash
-unfolding binaryKind
-clash-left o k = rw (and-false (eqb 3 (kindNumber k)), mixed (compares o))
-
-clash-right : (o : ℕ) (j : Kind) → binaryKind o j Clash ≡ Clash
-unfolding binaryKind
-clash-right o Number = mixed (compares o)
-clash-right o String = mixed (compares o)
-clash-right o Wide = mixed (compares o)
-clash-right o Clash = mixed (compares o)
-
--- a kind that does not clash is that of a number
-binary-number : (o : ℕ) (j k : Kind) → (binaryKind o j k ≡ Clash → ⊥) → binaryKind o j k ≡ Number
-unfolding binaryKind
-binary-number o j k =
-    pick-case (λ (x : Kind). (x ≡ Clash → ⊥) → x ≡ Number) (suits o j k) (λ _ _. refl) (λ _ n. absurd (n refl))
-
-module _ (o : ℕ) (j k : Kind) (n : binaryKind o j k ≡ Clash → ⊥) where
+module _ (o at : ℕ) (j k : Kind) (u : Suited o at j k) where
   -- both operands are evaluated
-  both-suit : (v w : Value) → HasKind j v → HasKind k w → HasKind Number (bothValues o v w)
-  unfolding binaryKind bothValues
+  both-suit : (v w : Value) → HasKind j v → HasKind k w → HasKind Number (bothValues o at v w)
+  unfolding bothValues
   both-suit (number x) (number y) h i =
-      pick-case (λ (z : Value). HasKind Number z) (compares o) (λ _. refl) (λ _. result-suits (applyBinary (binary o) x y) (applied-timely (binary o) x y))
-  both-suit (number x) (text l q t) h i = absurd (n (rw (h, i, text-number l, number-text l, mixed (compares o))))
-  both-suit (number x) (fault r) h i = i
-  both-suit (text l p s) (number y) h i = absurd (n (rw (h, i, text-number l, mixed (compares o))))
+      pick-case (λ (z : Value). HasKind Number z) (compares o) (λ _. refl)
+      (λ _. result-suits at (applyBinary (binary o) x y) (applied-timely (binary o) x y))
+  both-suit (number x) (text l q t) h i =
+      absurd (false≢true (sym (rw (h, i, text-number l, number-text l) (mixed (compares o))) ∙ u .suit))
+  both-suit (number x) (fault f) h i = i
+  both-suit (text l p s) (number y) h i = absurd (false≢true (sym (rw (h, i, text-number l) (mixed (compares o))) ∙ u .suit))
   both-suit (text a p s) (text b q t) h i =
-      pick-case (λ (z : Value). HasKind Number z) (suits o (ofText a) (ofText b)) (λ _. refl) (λ e. absurd (n (rw (h, i, e))))
-  both-suit (text l p s) (fault r) h i = i
-  both-suit (fault r) w h i = h
+      pick-case (λ (z : Value). HasKind Number z) (suits o (ofText a) (ofText b)) (λ _. refl)
+      (λ e. absurd (false≢true (sym (rw (h, i) e) ∙ u .suit)))
+  both-suit (text l p s) (fault f) h i = i
+  both-suit (fault f) w h i = h
 
-  binary-suits : (v w : Value) → ((j ≡ Clash → ⊥) → HasKind j v) → ((k ≡ Clash → ⊥) → HasKind k w) → HasKind (binaryKind o j k) (binaryValue o v w)
+  binary-suits : (v w : Value) → (clashes j ≡ false → HasKind j v) → (clashes k ≡ false → HasKind k w)
+      → HasKind (binaryKind o at j k) (binaryValue o at v w)
   unfolding binaryValue
   binary-suits v w h i =
-      let l = h (λ e. n (rw e (clash-left o k))) in
-      let r = i (λ e. n (rw e (clash-right o j))) in
-      rw (binary-number o j k n) (pick-case (λ (z : Value). HasKind Number z) (skips o v) (λ _. refl) (λ _. both-suit v w l r))
+      rw (u .number) (pick-case (λ (z : Value). HasKind Number z) (skips o v) (λ _. refl) (λ _. both-suit v w (h (u .left)) (i (u .right))))
 
--- two kinds with the same number are equal
+-- two kinds of one number that is no clash's are equal
 kind-numbered : ℕ → Kind
-kind-numbered n = pick (eqb n 0) Number (pick (eqb n 1) String (pick (eqb n 2) Wide Clash))
+kind-numbered n = pick (eqb n 0) Number (pick (eqb n 1) String Wide)
 
-told : (k : Kind) → kind-numbered (kindNumber k) ≡ k
+told : (k : Kind) → clashes k ≡ false → kind-numbered (kindNumber k) ≡ k
 unfolding kind-numbered
-told Number = refl
-told String = refl
-told Wide = refl
-told Clash = refl
+told Number n = refl
+told String n = refl
+told Wide n = refl
+told (Clash p) n = absurd (false≢true (sym n))
 
-same-kind : (j k : Kind) → eqb (kindNumber j) (kindNumber k) ≡ true → j ≡ k
-same-kind j k e = sym (told j) ∙ ap kind-numbered (eqb-true (kindNumber j) (kindNumber k) e) ∙ told k
+same-kind : (j k : Kind) → clashes j ≡ false → clashes k ≡ false → kindNumber j ≡ kindNumber k → j ≡ k
+same-kind j k l r e = sym (told j l) ∙ ap kind-numbered e ∙ told k r
 
--- a choice: the test is a number, and the arms are of one kind, which is the kind of the choice
-module _ (i j k : Kind) (n : choiceKind i j k ≡ Clash → ⊥) where
-  -- the kind of a choice, with its test given separately
-  choice-suits : (u v w : Value) → ((i ≡ Clash → ⊥) → HasKind i u) → ((j ≡ Clash → ⊥) → HasKind j v) → ((k ≡ Clash → ⊥) → HasKind k w)
-      → HasKind (choiceKind i j k) (choiceValue u v w)
-  unfolding choiceKind choiceValue
-  choice-suits u v w f g h = by (eqb (kindNumber i) 0) refl (eqb (kindNumber j) (kindNumber k)) refl (ltb (kindNumber j) 3) refl u f
-    where
-      by : (a : Bool) → eqb (kindNumber i) 0 ≡ a → (b : Bool) → eqb (kindNumber j) (kindNumber k) ≡ b → (c : Bool) → ltb (kindNumber j) 3 ≡ c
-          → (u : Value) → ((i ≡ Clash → ⊥) → HasKind i u) → HasKind (choiceKind i j k) (choiceValue u v w)
-      by false p b q c r u f = absurd (n (rw p))
-      by true p false q c r u f = absurd (n (rw (p, q)))
-      by true p true q false r u f = absurd (n (rw (p, q, r)))
-      by true p true q true r u f = rw (p, q, r) (chosen u (f (λ e. omega (arith, ap kindNumber e, eqb-true (kindNumber i) 0 p))))
-        where
-          live : j ≡ Clash → ⊥
-          live e = omega (arith, ap kindNumber e, ltb-true (kindNumber j) 3 r)
+-- a choice whose kind is no clash: its test is a number, and its arms are of one kind, which is the kind of the choice
+pub record SuitedArms (at : ℕ) (i j k : Kind) : Type 0 where
+  pub test : clashes i ≡ false
+  pub first : clashes j ≡ false
+  pub second : clashes k ≡ false
+  pub number : isNumber i ≡ true
+  pub alike : j ≡ k
+  pub kind : choiceKind at i j k ≡ j
 
-          chosen : (u : Value) → HasKind i u → HasKind j (choiceValue u v w)
-          chosen (number x) s = pick-case (λ (z : Value). HasKind j z) (eqb x 0) (λ _. rw (same-kind j k q) (h (λ e. live (same-kind j k q ∙ e)))) (λ _. g live)
-          chosen (text l q s) t = absurd (no-number l i t p)
-          chosen (fault m) t = t
+pub suited-arms : (at : ℕ) (i j k : Kind) → clashes (choiceKind at i j k) ≡ false → SuitedArms at i j k
+unfolding choiceKind
+suited-arms at i j k n = by-test (clashes i) refl
+  where
+    own : clashes i ≡ false → clashes j ≡ false → clashes k ≡ false → choiceKind at i j k ≡ pick (isNumber i && alikeKinds j k) j (Clash at)
+    own t l r = no-clash i _ t ∙ no-clash j _ l ∙ no-clash k _ r
+
+    by-fit : clashes i ≡ false → clashes j ≡ false → clashes k ≡ false → (b : Bool) → (isNumber i && alikeKinds j k) ≡ b → SuitedArms at i j k
+    by-fit t l r false e = absurd (never (choiceKind at i j k) (rw (own t l r, e)) n)
+    by-fit t l r true e =
+        let same : alikeKinds j k ≡ true = and-right (isNumber i) (alikeKinds j k) e in
+        let equal : kindNumber j ≡ kindNumber k =
+        eqb-true (kindNumber j) (kindNumber k) (and-left (eqb (kindNumber j) (kindNumber k)) (ltb (kindNumber j) 3) same) in
+        record {
+          test = t;
+          first = l;
+          second = r;
+          number = and-left (isNumber i) (alikeKinds j k) e;
+          alike = same-kind j k l r equal;
+          kind = own t l r ∙ rw e;
+        }
+
+    by-second : clashes i ≡ false → clashes j ≡ false → (b : Bool) → clashes k ≡ b → SuitedArms at i j k
+    by-second t l false r = by-fit t l r (isNumber i && alikeKinds j k) refl
+    by-second t l true r = absurd (never (choiceKind at i j k) (rw (no-clash i _ t, no-clash j _ l, a-clash k _ r) r) n)
+
+    by-first : clashes i ≡ false → (b : Bool) → clashes j ≡ b → SuitedArms at i j k
+    by-first t false l = by-second t l (clashes k) refl
+    by-first t true l = absurd (never (choiceKind at i j k) (rw (no-clash i _ t, a-clash j _ l) l) n)
+
+    by-test : (b : Bool) → clashes i ≡ b → SuitedArms at i j k
+    by-test false t = by-first t (clashes j) refl
+    by-test true t = absurd (never (choiceKind at i j k) (rw (a-clash i _ t) t) n)
+
+module _ (at : ℕ) (i j k : Kind) (u : SuitedArms at i j k) where
+  chosen : (x v w : Value) → HasKind i x → HasKind j v → HasKind k w → HasKind j (choiceValue at x v w)
+  unfolding choiceValue
+  chosen (number x) v w f g h = pick-case (λ (z : Value). HasKind j z) (eqb x 0) (λ _. rw (u .alike) h) (λ _. g)
+  chosen (text l q s) v w f g h = absurd (no-number l i f (u .number))
+  chosen (fault m) v w f g h = f
 
 -- each form, from its operands
 pub primary-kind-sound : (m : Memory) (k : Token) → KindSound (primaryOf m k)
 primary-kind-sound m k = leaf-suits (primaryOf m k .value)
 
 pub unary-kind-sound : (o : Token) (a : Attributes) → KindSound a → KindSound (unaryFrom o a)
-unary-kind-sound o a h = unary-suits (o .code) (a .kind) (a .value) h
+unary-kind-sound o a h = unary-suits (o .code) (o .start) (a .kind) (a .value) h
 
 pub binary-kind-sound : (o : Token) (a b : Attributes) → KindSound a → KindSound b → KindSound (binaryFrom o a b)
-binary-kind-sound o a b h i n = binary-suits (o .code) (a .kind) (b .kind) n (a .value) (b .value) h i
+binary-kind-sound o a b h i n =
+    binary-suits (o .code) (o .start) (a .kind) (b .kind) (suited (o .code) (o .start) (a .kind) (b .kind) n) (a .value) (b .value) h i
 
 pub choice-kind-sound : (o : Token) (c a b : Attributes) → KindSound c → KindSound a → KindSound b → KindSound (choiceFrom o c a b)
-choice-kind-sound o c a b f g h n = choice-suits (c .kind) (a .kind) (b .kind) n (c .value) (a .value) (b .value) f g h
+choice-kind-sound o c a b f g h n =
+    let u : SuitedArms (o .start) (c .kind) (a .kind) (b .kind) = suited-arms (o .start) (c .kind) (a .kind) (b .kind) n in
+    rw (u .kind) (chosen (o .start) (c .kind) (a .kind) (b .kind) u (c .value) (a .value) (b .value) (f (u .test)) (g (u .first)) (h (u .second)))

@@ -2,3 +2,4 @@ pub mod KindSound
 pub mod Results
 pub mod ErasePlaces
 pub mod Named
+pub mod PlacesWithin

@@ -1,5 +1,5 @@
--- A primary depends on the table only through the record under the name in its token, and not on the place of that record; and so does
--- whether a PCD is missing. Assumes nothing.
+-- A primary depends on the table only through the record under the name in its token, and not on the place of that record; and so do
+-- the PCDs that are missing. Assumes nothing.
 use Prim.Native.Nat.{ℕ}
 use mathlib.Core.Path.{_≡_, refl, sym, ap, _∙_}
 use mathlib.Core.Logic.{inl, inr}
@@ -16,7 +16,7 @@ use Rattle.lookup.proofs.Records.{Content, number as holds, text as holdsText, 
 use Rattle.lookup.proofs.Within.{under-within}
 use Rattle.token.specs.Tokens.{Token}
 use Rattle.value.specs.Places.{over, inExpression}
-use Rattle.value.specs.Values.{Value, number, text, fault, kindOf, denoteValue, nameIn, Naming, settingOf, primaryValue, hasMissingPcd}
+use Rattle.value.specs.Values.{Value, number, text, fault, kindOf, denoteValue, nameIn, Naming, settingOf, primaryValue, missingPcds}
 use Rattle.value.specs.Attributes.{primaryOf}
 use Rattle.soundness.proofs.ErasePlaces.{erasePlaces, erasePlacesOf}
 
@@ -24,18 +24,18 @@ use Rattle.soundness.proofs.ErasePlaces.{erasePlaces, erasePlacesOf}
 given : Content → Value
 given (holds x) = number x
 given (holdsText k s) = text k (inExpression 0 0) s
-given (holdsFault n) = fault n
+given (holdsFault f) = fault f
 
 kind-erased : (v : Value) → kindOf (erasePlaces v) ≡ kindOf v
 kind-erased (number x) = refl
 kind-erased (text k p s) = refl
-kind-erased (fault n) = refl
+kind-erased (fault f) = refl
 
 setting-given : (e t : List ℕ) (v : CodedValue) → Within t v → erasePlaces (denoteValue (over e t) v) ≡ given (contentIn t v)
 unfolding given
 setting-given e t (Number x) h = refl
 setting-given e t (Text k p) h = rw (h .0)
-setting-given e t (Fault n) h = absurd h
+setting-given e t (Fault f) h = absurd h
 
 -- two tables with the same record under a name
 module _ (t u n : List ℕ) (same : recordUnder t n ≡ recordUnder u n) where
@@ -79,9 +79,9 @@ module _ (e t u : List ℕ) where
       sym (kind-erased (primaryValue (over e t) k)) ∙ ap kindOf value ∙ kind-erased (primaryValue (over e u) k) in
       rw (kind, value)
 
-  -- whether a PCD is missing, of all tokens of a list
-  pub same-missing : (ts : List Token) → ((k : Token) → List·Memᴰ k ts → Agree k) → hasMissingPcd (over e t) ts ≡ hasMissingPcd (over e u) ts
-  unfolding hasMissingPcd
+  -- the PCDs that are missing, of all tokens of a list
+  pub same-missing : (ts : List Token) → ((k : Token) → List·Memᴰ k ts → Agree k) → missingPcds (over e t) ts ≡ missingPcds (over e u) ts
+  unfolding missingPcds
   same-missing [] same = refl
   same-missing (k ∷ ts) same = rw (here (eqb (k .code) PCD) refl, same-missing ts (λ j i. same j (List·Memᴰ·tail i)))
     where

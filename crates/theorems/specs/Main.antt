@@ -2,16 +2,20 @@
 -- Bytes are natural numbers; `t` is a table of settings, `f` a file, each a list of bytes; `m` is a memory: an expression and a table; `δ` is
 -- any dialect. The definitions in the statements are in the files that the imports name.
 -- Demand 1 is no theorem here: the toolchain proves of each function that it ends, does nothing undefined and gives an answer for any bytes.
-use Prim.Native.Nat.{ℕ, _≤_, _<_}
+use Prim.Native.Nat.{ℕ, _+_, _-_, _≤_, _<_}
 use mathlib.Core.Path.{_≡_}
 use mathlib.Core.Logic.{_↔_, _⊎_}
-use mathlib.Core.Bool.{true, false, not, _&&_}
-use mathlib.Core.List.{List, [], map}
+use mathlib.Core.Bool.{true, false}
+use mathlib.Core.List.{List, [], _∷_, _++_, List·Memᴰ, Sublistᴰ}
 use lib.ListN.{length, getD, take}
-use Rattle.units.specs.Refusals.{TABLE-MALFORMED, NO-DERIVATION, BAR-OUTSIDE, TEXT-MALFORMED}
+use Rattle.units.specs.Refusals.{TABLE-MALFORMED, NO-DERIVATION, BAR-OUTSIDE, PCD-MISSING, KINDS-UNSUITED, TEXT-MALFORMED, faultAt, unplaced, placed}
+use Rattle.units.specs.Leftmost.{there}
 use Rattle.units.specs.Dialects.{STRICT, inDirectives}
 use Rattle.units.specs.declared.Refusal.{Refusal}
 use Rattle.units.specs.declared.Dialect.{Dialect}
+use Rattle.units.specs.declared.Fault.{Fault}
+use Rattle.units.specs.declared.Offset.{Offset}
+use Rattle.units.specs.declared.Where.the-variants.{Nowhere}
 use Rattle.text.specs.Bytes.{pick}
 use Rattle.settings.specs.Table.{records, ordered, wellFormed}
 use Rattle.settings.proofs.Ordered.{in-order}
@@ -23,23 +27,44 @@ use Rattle.halving.proofs.Beginning.{first-bytes-decide}
 use Rattle.halving.proofs.FullTable.{full-table}
 use Rattle.lookup.specs.Setting.{recordUnder}
 use Rattle.lookup.proofs.Halved.{halved-record}
-use Rattle.token.specs.Tokens.{Token, reading}
+use Rattle.codes.specs.Codes.{OPEN}
+use Rattle.token.specs.Tokens.{MAX-TOKENS, Token, firstPlace, readFrom, tooDeep, codesOf, reading}
+use Rattle.token.specs.declared.scan.Ending.{Ending}
+use Rattle.scanned.specs.Scanned.{Scanned}
+use Rattle.scanned.specs.Depth.{FirstOver}
+use Rattle.scanned.proofs.ReadingScanned.{reading-scanned, scanned-reading}
+use Rattle.scanned.proofs.StartsAscend.{starts-ascend}
+use Rattle.scanned.proofs.TooDeepPlace.{too-deep-place, first-over-opens}
 use Rattle.token.specs.declared.scan.Ending.the-variants.{Complete, Refused}
 use Rattle.grammar.specs.Grammar.{Tree, expression, Derives}
 use Rattle.grammar.specs.Fold.{Algebra, Counts, fold}
-use Rattle.grammar.specs.Bars.{bare, barOutside}
+use Rattle.grammar.specs.Bars.{bareBars, barsOutside}
 use Rattle.grammar.specs.Parse.{Reads, parse, accepted as parsed, refused as unparsed}
 use Rattle.grammar.proofs.Decided.{unambiguous, bounded, evaluates}
 use Rattle.grammar.proofs.Bars.{bars-seen}
 use Rattle.value.specs.Places.{Memory, over}
-use Rattle.value.specs.Values.{Value, kindOf, HasKind, InBounds, hasMissingPcd}
-use Rattle.value.specs.declared.Kind.the-variants.{Clash}
+use Rattle.beginnings.specs.Beginnings.{Begins, FirstBad, Supply}
+use Rattle.beginnings.proofs.FirstBad.{shorter, first-bad-single, locates}
+use Rattle.blame.specs.Blame.{toBlame}
+use Rattle.blame.specs.Nodes.{root}
+use Rattle.blame.specs.Applied.{faultyNodes}
+use Rattle.blame.proofs.InOrder.{in-order as blame-in-order}
+use Rattle.value.specs.Kinds.{clashes}
+use Rattle.value.specs.Values.{Value, fault as faultValue, kindOf, HasKind, InBounds, isMissingPcd}
 use Rattle.expression.specs.Meaning.{codeOf, meaning as attributes}
-use Rattle.evaluation.specs.Evaluation.{value, refused as refusedWhole, refusedWith, lineOf, checkThenAnswer, evaluationIn, evaluation}
-use Rattle.answers.proofs.AnswersExact.{malformed, well-formed, unreadable as not-read, underived, derived, kind-sound, value-kind, counted}
+use Rattle.leftmost.specs.Leftmost.{pcdAt}
+use Rattle.evaluation.specs.Evaluation.{value, refused as refusedBy, refusedAt, refusedWith, refusalNumber, lineOf, offsetOf, answerValue, refusedOr}
+use Rattle.evaluation.specs.Evaluation.{startIn, evaluationIn, evaluation}
+use Rattle.answers.specs.Tests.{wrongKinds, isFault, fails, skipsRight, takesFirst}
+use Rattle.answers.proofs.AnswersExact.{malformed, well-formed, unreadable as not-read, kind-sound, value-kind, counted}
+use Rattle.answers.proofs.NoDerivation.{seven, seven-at, first-bad-of}
+use Rattle.answers.proofs.MissingPcd.{nine-at, nine-nowhere}
+use Rattle.answers.proofs.Blamed.{tree-decides as by-the-tree}
+use Rattle.answers.proofs.Faulted.{fault-met, no-fault-met}
+use Rattle.answers.proofs.Unplaced.{offset-zero, offset-in-expression}
 use Rattle.answers.proofs.StringsInBounds.{strings-in-bounds}
 use Rattle.answers.proofs.LineZero.{without-line}
-use Rattle.answers.proofs.Bars.{same-reading, bars-only, eight-exactly}
+use Rattle.answers.proofs.Bars.{same-reading, bars-only, eight-at, eight-without}
 use Rattle.line.specs.Lines.{lines}
 use Rattle.line.specs.declared.Directive.{Directive}
 use Rattle.line.specs.declared.Directive.the-variants.{If, Elseif}
@@ -53,12 +78,14 @@ use Rattle.blocks.specs.Blocks.{Blocks, Derives as DerivesBlocks, depth}
 use Rattle.blocks.specs.Meaning.{means, fault, meaning, resultOf, WithinLimit}
 use Rattle.blocks.specs.Reading.{readsOf}
 use Rattle.blocks.specs.Beginnings.{Innermost}
+use Rattle.blocks.specs.Offsets.{PlacedIn}
 use Rattle.blocks.specs.Refused.{RefusedAt, RefusedAtEnd}
 use Rattle.blocks.proofs.Decided.{unambiguous as blocks-unambiguous, sound, complete, run-complete}
 use Rattle.blocks.proofs.MarksTellReading.{marks-tell-reading}
 use Rattle.blocks.proofs.Refused.{refused-by-blocks}
 use Rattle.blocks.proofs.FaultNumbers.{fault-numbers}
 use Rattle.blocks.proofs.OneInnermost.{one-innermost}
+use Rattle.blocks.proofs.SelectionOffset.{selection-unplaced, selection-placed}
 use Rattle.blocks.proofs.TextFaults.{never-bar}
 use Rattle.blocks.proofs.NeverBar.{never-bar as selection-never-bar}
 use Rattle.blocks.proofs.ConditionAnswer.{condition-answer, unspaced}
@@ -67,6 +94,7 @@ use Rattle.isolation.proofs.SelectionIsolated.{isolation, two-calls}
 use Rattle.field.specs.Fields.{fieldOf, lineOf as lineOfField}
 use Rattle.field.proofs.LineZero.{without-line as field-without-line}
 use Rattle.field.proofs.Refused.{refused-field}
+use Rattle.field.proofs.Unplaced.{field-unplaced}
 use Rattle.datum.specs.declared.Written.the-variants.{Refused as RefusedField}
 
 -- EXPRESSIONS (demand 2)
@@ -86,28 +114,40 @@ pub well-formed-table : (m : Memory) (δ : Dialect) → wellFormed (m .table) �
 well-formed-table = well-formed
 
 -- The refusals of reading the tokens come first: 2 to 6.
-pub unreadable : (m : Memory) (δ : Dialect) (r : Refusal) → reading (m .expression) δ .ending ≡ Refused r → evaluationIn m δ ≡ refusedWhole r
+pub unreadable : (m : Memory) (δ : Dialect) (r : Refusal) → reading (m .expression) δ .ending ≡ Refused r → evaluationIn m δ ≡ refusedBy r
 unreadable = not-read
 
--- If reading is complete, the answer is refusal 7 exactly if the tokens derive no tree.
-pub no-derivation : (m : Memory) (δ : Dialect) → reading (m .expression) δ .ending ≡ Complete
-    → (evaluationIn m δ ≡ refusedWith NO-DERIVATION) ↔ ((s : Tree Token) → Derives codeOf expression (reading (m .expression) δ .tokens) s → ⊥)
-no-derivation = underived
+-- If reading is complete, it ended at `end`, the place of the expression's `#` or its length. The answer is refusal 7 at offset o exactly if the
+-- tokens derive no tree and o is the place of the first token after which no continuation derives; if there is no such token, o is `end`.
+pub no-derivation : (m : Memory) (δ : Dialect) (end : Offset) → reading (m .expression) δ .ending ≡ Complete end → (o : ℕ)
+    → (evaluationIn m δ ≡ refusedAt NO-DERIVATION o)
+    ↔ (((s : Tree Token) → Derives codeOf expression (reading (m .expression) δ .tokens) s → ⊥)
+    × ((e : ℕ) × FirstBad codeOf (reading (m .expression) δ .tokens) e × (o ≡ startIn (reading (m .expression) δ .tokens) (end .0) e)))
+no-derivation = seven-at
 
--- If they derive a tree, it decides: 8 for a bar outside parentheses unless the dialect allows it, then 9 for a PCD that the table does not have,
--- then 10, else the value and the count of the tree, or 11 or 12.
-pub tree-decides : (m : Memory) (δ : Dialect) → reading (m .expression) δ .ending ≡ Complete
+-- So the number is 7 exactly if the tokens derive no tree.
+pub seven-exactly : (m : Memory) (δ : Dialect) (end : Offset) → reading (m .expression) δ .ending ≡ Complete end
+    → (refusalNumber (evaluationIn m δ) ≡ NO-DERIVATION) ↔ ((s : Tree Token) → Derives codeOf expression (reading (m .expression) δ .tokens) s → ⊥)
+seven-exactly = seven
+
+-- If they derive a tree, it decides: 8 at the leftmost bar outside parentheses unless the dialect allows it, then 9 at the leftmost PCD that the
+-- table does not have, then 10 at the first operator to blame, else the value and the count of the tree, or 11 or 12.
+pub tree-decides : (m : Memory) (δ : Dialect) (end : Offset) → reading (m .expression) δ .ending ≡ Complete end
     → (s : Tree Token) (d : Derives codeOf expression (reading (m .expression) δ .tokens) s)
-    → evaluationIn m δ ≡ checkThenAnswer (not (δ .bars) && bare codeOf d) (hasMissingPcd m (reading (m .expression) δ .tokens)) (fold (attributes m) s)
-tree-decides = derived
+    → evaluationIn m δ
+    ≡ refusedOr (pick (δ .bars) Nowhere (firstPlace (bareBars codeOf d))) BAR-OUTSIDE
+    (refusedOr (pcdAt m (reading (m .expression) δ .tokens)) PCD-MISSING
+    (refusedOr (firstPlace (toBlame (attributes m) wrongKinds s)) KINDS-UNSUITED
+    (answerValue (fold (attributes m) s .value) (fold (attributes m) s .count))))
+tree-decides = by-the-tree
 
 -- If the kinds in a tree do not clash, its value has the kind of the tree, or it is refusal 11 or 12.
 pub kinds-settle : (m : Memory) (s : Tree Token)
-    → (fold (attributes m) s .kind ≡ Clash → ⊥) → HasKind (fold (attributes m) s .kind) (fold (attributes m) s .value)
+    → clashes (fold (attributes m) s .kind) ≡ false → HasKind (fold (attributes m) s .kind) (fold (attributes m) s .value)
 kinds-settle = kind-sound
 
 -- So an answered value has the kind of the tree, also if operands were skipped.
-pub value-has-its-kind : (m : Memory) (δ : Dialect) → reading (m .expression) δ .ending ≡ Complete
+pub value-has-its-kind : (m : Memory) (δ : Dialect) (end : Offset) → reading (m .expression) δ .ending ≡ Complete end
     → (s : Tree Token) → Derives codeOf expression (reading (m .expression) δ .tokens) s
     → (v : Value) (n : ℕ) → evaluationIn m δ ≡ value v n → kindOf v ≡ fold (attributes m) s .kind
 value-has-its-kind = value-kind
@@ -126,6 +166,91 @@ expression-has-no-line = without-line
 
 pub field-has-no-line : (m : Memory) (datum : ℕ) (buffer : List ℕ) (δ : Dialect) → lineOfField (fieldOf m datum buffer δ .answer) ≡ 0
 field-has-no-line = field-without-line
+
+-- PLACES (document 02, order 3). They are offsets in bytes, from the expression's start; in a selection from the line's start.
+
+-- What `FirstBad` names. A list of tokens begins an expression if it derives with some continuation, any list of tokens; a shorter beginning of
+-- such a list begins one too. So of any tokens there is one first after which no continuation derives, or all of them begin an expression.
+pub beginnings-begin : {K : Type 0} (code : K → ℕ) (ts : List K) (i j : ℕ) → j ≤ i → Begins code (take i ts) → Begins code (take j ts)
+beginnings-begin = shorter
+
+pub one-first-bad-token : {K : Type 0} (code : K → ℕ) (ts : List K) (d e : ℕ) → FirstBad code ts d → FirstBad code ts e → d ≡ e
+one-first-bad-token = first-bad-single
+
+pub first-bad-token-exists : (ts : List Token) → (e : ℕ) × FirstBad codeOf ts e
+first-bad-token-exists = first-bad-of
+
+-- 3, 4 and 5: where the tokens of an expression are, and where reading ends or is refused, up to the checks of 2 and 6. `Scanned` goes from byte
+-- to byte: a blank is skipped, a token is the one at the front of what is left, and it starts there; so does one that cannot be read, and what
+-- follows token 200. Nothing else is read.
+pub tokens-at-their-places : (e : List ℕ) (δ : Dialect)
+    → Scanned e δ 0 0 (readFrom 0 MAX-TOKENS 0 e δ .tokens) (readFrom 0 MAX-TOKENS 0 e δ .ending)
+tokens-at-their-places = reading-scanned
+
+pub nothing-else-is-read : (e : List ℕ) (δ : Dialect) (ts : List Token) (x : Ending) → Scanned e δ 0 0 ts x
+    → readFrom 0 MAX-TOKENS 0 e δ ≡ record { tokens = ts; ending = x }
+nothing-else-is-read e δ ts x = scanned-reading e δ
+
+-- Of two tokens of an expression the later one in the list is further right.
+pub tokens-from-left-to-right : (e : List ℕ) (δ : Dialect) (us vs ws : List Token) (a b : Token)
+    → reading e δ .tokens ≡ us ++ (a ∷ (vs ++ (b ∷ ws))) → a .start + a .len ≤ b .start
+tokens-from-left-to-right = starts-ascend
+
+-- 6: the first token with which the opening parentheses outnumber the closing ones by more than 16; it is an opening one.
+pub deep-parenthesis-place : (ts : List Token) (o : ℕ) → (tooDeep 0 0 ts ≡ there o) ↔ FirstOver ts o
+deep-parenthesis-place = too-deep-place
+
+pub deep-parenthesis-opens : (ts : List Token) (o : ℕ) (r : FirstOver ts o) → getD (codesOf ts) (r .index) 0 ≡ OPEN
+deep-parenthesis-opens = first-over-opens
+
+-- 9: the place of a PCD that the table does not have is that of the one before which none is missing, and there is none if no token is one.
+pub missing-pcd-place : (m : Memory) (us : List Token) (k : Token) (vs : List Token)
+    → ((j : Token) → List·Memᴰ j us → isMissingPcd m j ≡ false) → isMissingPcd m k ≡ true → pcdAt m (us ++ k ∷ vs) ≡ there (k .start)
+missing-pcd-place = nine-at
+
+pub no-missing-pcd : (m : Memory) (ts : List Token) → ((j : Token) → List·Memᴰ j ts → isMissingPcd m j ≡ false) → pcdAt m ts ≡ Nowhere
+no-missing-pcd = nine-nowhere
+
+-- 10: the operators to blame are those that are wrong while none of their operands is. They come in the order of the tokens, so that the first of
+-- them, which is that of `tree-decides`, is the leftmost.
+pub blamed-from-left-to-right : (m : Memory) (ts : List Token) (s : Tree Token)
+    → Derives codeOf expression ts s → Sublistᴰ (toBlame (attributes m) wrongKinds s) ts
+blamed-from-left-to-right m = blame-in-order codeOf (attributes m) wrongKinds expression
+
+-- 11 and 12: if the kinds do not clash and the value of a tree is a fault, it is the fault, with the same number, of the first node, in the order of
+-- evaluation, that fails while none of its evaluated operands does, at the place of its operator; if the value is no fault, there is no such node.
+pub fault-place : (m : Memory) (s : Tree Token) → clashes (fold (attributes m) s .kind) ≡ false
+    → (f : Fault) → fold (attributes m) s .value ≡ faultValue f
+    → (n : Tree Token) × (ns : List (Tree Token)) × (faultyNodes (attributes m) skipsRight takesFirst fails s ≡ n ∷ ns)
+    × (fold (attributes m) n .value ≡ faultValue f) × (f .at .0 ≡ root n .start)
+fault-place = fault-met
+
+pub no-fault-no-place : (m : Memory) (s : Tree Token) → clashes (fold (attributes m) s .kind) ≡ false
+    → isFault (fold (attributes m) s .value) ≡ false → faultyNodes (attributes m) skipsRight takesFirst fails s ≡ []
+no-fault-no-place = no-fault-met
+
+-- The offset of a refusal is at most the length of the expression, and 0 if the number is none of 3 to 12. A data field takes over the refusals
+-- of its expression, and its own have 0.
+pub offset-in-the-expression : (m : Memory) (δ : Dialect) → offsetOf (evaluation m δ) ≤ length (m .expression)
+offset-in-the-expression = offset-in-expression
+
+pub other-refusals-have-offset-0 : (m : Memory) (δ : Dialect) (r : Refusal)
+    → evaluation m δ ≡ refusedBy r → placed (r .number) ≡ false → r .offset .0 ≡ 0
+other-refusals-have-offset-0 = offset-zero
+
+pub field-refusals-have-offset-0 : (m : Memory) (datum : ℕ) (buffer : List ℕ) (δ : Dialect) (r : Refusal)
+    → fieldOf m datum buffer δ .answer ≡ RefusedField r → placed (r .number) ≡ false → r .offset .0 ≡ 0
+field-refusals-have-offset-0 = field-unplaced
+
+-- A selection that is refused with a number from 3 to 12 is so at a line with an `!if` or an `!elseif`, whose text is refused with that number;
+-- the offset is where the text starts in the line plus the offset in the text, and at most the line's length. With any other number it is 0.
+pub selection-place : (f t : List ℕ) (δ : Dialect) (x : Fault) (n room : ℕ) → selection f t room δ ≡ refused x n
+    → placed (x .number) ≡ true → PlacedIn t (getD (lines f) (n - 1) []) x δ
+selection-place = selection-placed
+
+pub other-selections-have-offset-0 : (f t : List ℕ) (δ : Dialect) (x : Fault) (n room : ℕ) → selection f t room δ ≡ refused x n
+    → placed (x .number) ≡ false → x .at .0 ≡ 0
+other-selections-have-offset-0 = selection-unplaced
 
 -- LOOKUP BY HALVING (document 02, order 4). By its contract, `halving::find` gives what `halving` is, the count of its rounds included; a round
 -- compares one name. By its contract `lookup` gives the setting of the record that `halving` finds.
@@ -195,14 +320,16 @@ pub marks-show-reading : (f t : List ℕ) (δ : Dialect) (room : ℕ) (ms : List
     → ((getD (readsOf t true bs δ) i false ≡ true) ↔ (3 ≤ getD ms i 0)) × (getD ms i 0 ≤ 5)
 marks-show-reading = marks-tell-reading
 
--- A run is refused with number r at line n exactly if line n is the first line with a reason to be refused, and r is the number of the
--- reason; or if no line has a reason, r is 21, a group is open at the end, and line n is the innermost open `!if`.
-pub refused-exactly : (t : List ℕ) (δ : Dialect) (ls : List (List ℕ)) (r n : ℕ)
-    → (run t 1 start ls δ ≡ refused r n) ↔ (RefusedAt t ls r n δ ⊎ ((r ≡ 21) × RefusedAtEnd t ls n δ))
+-- A run is refused with a fault x, its number and its place in the line, at line n exactly if line n is the first line with a reason to be
+-- refused, and x is the fault of the reason; or if no line has a reason, x is 21 without a place, a group is open at the end, and line n is the
+-- innermost open `!if`.
+pub refused-exactly : (t : List ℕ) (δ : Dialect) (ls : List (List ℕ)) (x : Fault) (n : ℕ)
+    → (run t 1 start ls δ ≡ refused x n) ↔ (RefusedAt t ls x n δ ⊎ ((x ≡ unplaced 21) × RefusedAtEnd t ls n δ))
 refused-exactly = refused-by-blocks
 
 -- No two reasons share a number: a fault in the text of a directive never has a number from 17 to 21.
-pub faults-have-other-numbers : (t : List ℕ) (δ : Dialect) (bs : Blocks) (r i : ℕ) → meaning t true bs δ ≡ fault r i → 17 ≤ r → r ≤ 21 → ⊥
+pub faults-have-other-numbers : (t : List ℕ) (δ : Dialect) (bs : Blocks) (x : Fault) (i : ℕ)
+    → meaning t true bs δ ≡ fault x i → 17 ≤ x .number → x .number ≤ 21 → ⊥
 faults-have-other-numbers = fault-numbers
 
 -- At most one line is the innermost open `!if`.
@@ -215,7 +342,7 @@ innermost-is-one-line = one-innermost
 -- evaluated as any expression is, in a dialect that frees bars: the theorems on `evaluationIn` say what its answer is, and by `tree-decides` no
 -- bar is refused.
 pub condition-needs-a-blank : (t : List ℕ) (d : Directive) (s : List ℕ) (δ : Dialect) → (d ≡ If) ⊎ (d ≡ Elseif) → spaced s ≡ false
-    → evaluate t d s δ ≡ RefusedCondition TEXT-MALFORMED
+    → evaluate t d s δ ≡ RefusedCondition (unplaced TEXT-MALFORMED)
 condition-needs-a-blank = unspaced
 
 pub condition-is-an-answer : (t : List ℕ) (d : Directive) (s : List ℕ) (δ : Dialect) → (d ≡ If) ⊎ (d ≡ Elseif) → spaced s ≡ true
@@ -223,10 +350,11 @@ pub condition-is-an-answer : (t : List ℕ) (d : Directive) (s : List ℕ) (δ :
 condition-is-an-answer = condition-answer
 
 -- No directive is refused with 8, whatever its text is, and no selection is.
-pub directive-never-8 : (t : List ℕ) (d : Directive) (s : List ℕ) (δ : Dialect) → evaluate t d s δ ≡ RefusedCondition BAR-OUTSIDE → ⊥
+pub directive-never-8 : (t : List ℕ) (d : Directive) (s : List ℕ) (δ : Dialect) (o : ℕ)
+    → evaluate t d s δ ≡ RefusedCondition (faultAt BAR-OUTSIDE o) → ⊥
 directive-never-8 = never-bar
 
-pub selection-never-8 : (f t : List ℕ) (δ : Dialect) (n room : ℕ) → selection f t room δ ≡ refused BAR-OUTSIDE n → ⊥
+pub selection-never-8 : (f t : List ℕ) (δ : Dialect) (o n room : ℕ) → selection f t room δ ≡ refused (faultAt BAR-OUTSIDE o) n → ⊥
 selection-never-8 = selection-never-bar
 
 -- Nothing else differs in directives: a text has the same tokens there, and the same answer if that is not 8.
@@ -234,17 +362,23 @@ pub bars-leave-tokens : (e : List ℕ) (δ : Dialect) → reading e (inDirective
 bars-leave-tokens = same-reading
 
 pub bars-decide-8-only : (m : Memory) (δ : Dialect)
-    → (evaluationIn m δ ≡ refusedWith BAR-OUTSIDE → ⊥) → evaluationIn m (inDirectives δ) ≡ evaluationIn m δ
+    → (refusalNumber (evaluationIn m δ) ≡ BAR-OUTSIDE → ⊥) → evaluationIn m (inDirectives δ) ≡ evaluationIn m δ
 bars-decide-8-only = bars-only
 
--- By itself, if reading is complete and the tokens derive a tree, an expression is refused with 8 exactly if a bar is outside parentheses.
-pub bar-by-itself : (m : Memory) → reading (m .expression) STRICT .ending ≡ Complete
+-- By itself, if reading is complete and the tokens derive a tree, an expression is refused with 8 exactly if a bar is outside parentheses, at
+-- the leftmost such bar.
+pub bar-by-itself : (m : Memory) (end : Offset) → reading (m .expression) STRICT .ending ≡ Complete end
     → (s : Tree Token) (d : Derives codeOf expression (reading (m .expression) STRICT .tokens) s)
-    → (evaluationIn m STRICT ≡ refusedWith BAR-OUTSIDE) ↔ (bare codeOf d ≡ true)
-bar-by-itself = eight-exactly
+    → (k : Token) (ks : List Token) → bareBars codeOf d ≡ k ∷ ks → evaluationIn m STRICT ≡ refusedAt BAR-OUTSIDE (k .start)
+bar-by-itself = eight-at
+
+pub no-bar-by-itself : (m : Memory) (end : Offset) → reading (m .expression) STRICT .ending ≡ Complete end
+    → (s : Tree Token) (d : Derives codeOf expression (reading (m .expression) STRICT .tokens) s)
+    → bareBars codeOf d ≡ [] → refusalNumber (evaluationIn m STRICT) ≡ BAR-OUTSIDE → ⊥
+no-bar-by-itself = eight-without
 
 -- A data field has the refusals of its expression, in any dialect, and the buffer then stays as it was.
-pub field-refuses-expression : (m : Memory) (datum : ℕ) (buffer : List ℕ) (δ : Dialect) (r : Refusal) → evaluation m δ ≡ refusedWhole r
+pub field-refuses-expression : (m : Memory) (datum : ℕ) (buffer : List ℕ) (δ : Dialect) (r : Refusal) → evaluation m δ ≡ refusedBy r
     → fieldOf m datum buffer δ ≡ record { answer = RefusedField r; buffer = buffer }
 field-refuses-expression = refused-field
 
@@ -276,12 +410,17 @@ pub parser-refuses : {K A : Type 0} {code : K → ℕ} {ts : List K} {tok : ℕ 
     → ((i : ℕ) × (parse code alg tok (length ts) ≡ unparsed i)) ↔ ((s : Tree K) → Derives code expression ts s → ⊥)
 parser-refuses reads alg = evaluates reads alg .refused-exactly
 
+-- It refuses at the first token after which no continuation derives, if there is a token of every code.
+pub parser-refuses-at : {K A : Type 0} {code : K → ℕ} {ts : List K} {tok : ℕ → K} → Supply code → Reads code ts tok → (alg : Algebra K A) (e : ℕ)
+    → (parse code alg tok (length ts) ≡ unparsed e) ↔ (((s : Tree K) → Derives code expression ts s → ⊥) × FirstBad code ts e)
+parser-refuses-at supply reads alg = locates supply reads alg
+
 -- An algebra that counts at most one per operator counts fewer than there are tokens.
 pub algebra-counts-below-tokens : {K A : Type 0} (code : K → ℕ) (alg : Algebra K A) (count : A → ℕ) → Counts alg count
     → (ts : List K) (s : Tree K) → Derives code expression ts s → count (fold alg s) < length ts
 algebra-counts-below-tokens = bounded
 
--- The tokens have a bar outside parentheses exactly if their derivation has one.
+-- The bars outside parentheses that the tokens have are those of their derivation, from left to right.
 pub bars-are-seen : {K : Type 0} (code : K → ℕ) {ts : List K} {s : Tree K} (d : Derives code expression ts s)
-    → barOutside 0 (map code ts) ≡ bare code d
+    → barsOutside code 0 ts ≡ bareBars code d
 bars-are-seen = bars-seen

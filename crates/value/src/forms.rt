@@ -34,7 +34,8 @@ fn saturating_sub(n: usize, k: usize) -> usize
     if k <= n { n - k } else { 0 }
 }
 
-fn place(k: Token) -> Offset
+// The place of a token.
+pub fn place(k: Token) -> Offset
     ensures { λ r. ⌜ r .0 ≡ k .start ⌝ }
     ensures { λ r. ⌜ r .0 < 65536 ⌝ }
 {
@@ -123,8 +124,9 @@ pub fn of_unary(o: Token, a: Attributes) -> Attributes
 {
     let k = a.kind;
     let v = a.value;
-    let kind = kinds::of_unary(k);
-    let value = values::unary(o.code, v);
+    let at = place(o);
+    let kind = kinds::of_unary(o.start, k);
+    let value = values::unary(o.code, at, v);
     Attributes {
         kind,
         value,
@@ -154,9 +156,11 @@ pub fn of_binary<'a>(
     let k = b.kind;
     let v = a.value;
     let w = b.value;
-    let kind = kinds::of_binary(code, j, k);
-    let value = values::binary(expr, table, code, v, w);
-    let right = unless(values::skips(code, v), b.count);
+    let at = place(o);
+    let kind = kinds::of_binary(code, o.start, j, k);
+    let skip = values::skips(code, v);
+    let value = values::binary(expr, table, code, at, skip, v, w);
+    let right = unless(skip, b.count);
     Attributes {
         kind,
         value,
@@ -192,8 +196,9 @@ pub fn of_choice(o: Token, c: Attributes, a: Attributes, b: Attributes) -> Attri
     let u = c.value;
     let v = a.value;
     let w = b.value;
-    let kind = kinds::of_choice(i, j, k);
-    let value = values::choice(u, v, w);
+    let at = place(o);
+    let kind = kinds::of_choice(o.start, i, j, k);
+    let value = values::choice(at, u, v, w);
     let arm = chosen(first_arm(u), a.count, b.count);
     Attributes {
         kind,

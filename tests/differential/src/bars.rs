@@ -3,7 +3,7 @@
 
 use oracle::lines::{lines, sort, Line, Word};
 use oracle::selection::mark;
-use oracle::tokens::has_bar_outside;
+use oracle::tokens::bar_outside;
 
 use crate::report::Tally;
 
@@ -17,7 +17,7 @@ pub fn in_read_condition(file: &[u8], marks: &[u8]) -> bool {
             Ok(Line::Directive {
                 word: Word::If | Word::Elseif,
                 argument,
-            }) => has_bar_outside(&oracle::scan(argument).tokens),
+            }) => bar_outside(&oracle::scan(argument).tokens).is_some(),
             _ => false,
         })
 }

@@ -1,4 +1,5 @@
-//! Values of expressions: refusals 1 to 12, and value, count and place.
+//! Values of expressions: refusals 1 to 12 with their offsets, and value, count
+//! and place.
 
 use std::ops::Range;
 
@@ -7,7 +8,7 @@ use oracle::Value;
 use crate::crash;
 use crate::gen::formulas::Place;
 use crate::gen::settings::{self, Names};
-use crate::gen::{expressions, tables, values};
+use crate::gen::{expressions, nested, rivals, tables, values};
 use crate::lent::{Input, Shown};
 use crate::library;
 use crate::prng::Prng;
@@ -62,9 +63,18 @@ impl Subject for Evaluations {
         for (index, expr) in values::choices().iter().enumerate() {
             compare(expr, &strings.concat(), index as u64, tally)?;
         }
-        let lists = [values::short_lists(), values::edges(), values::neighbours()];
+        let lists = [
+            values::short_lists(),
+            values::edges(),
+            values::neighbours(),
+            nested::all(),
+        ];
         for (index, expr) in lists.concat().iter().enumerate() {
             compare(expr, b"", index as u64, tally)?;
+        }
+        let one_pcd = tables::record(b"g.P", 0, &[2, 0, 0, 0, 0, 0, 0, 0]);
+        for (index, expr) in rivals::pairs().iter().enumerate() {
+            compare(expr, &one_pcd, index as u64, tally)?;
         }
         Ok(())
     }
@@ -111,7 +121,7 @@ fn compare_at(
     tally: &mut Tally,
 ) -> Result<(), Mismatch> {
     let expected = answer(expr, table);
-    tally.add(expected.0);
+    tally.add(expected.0, expected.1[6]);
     if expected.1[0] != 0 {
         tally.extra += 1;
     }
@@ -135,17 +145,21 @@ fn compare_at(
 }
 
 /// The oracle's answer in the library's form.
-fn answer(expr: &[u8], table: &[u8]) -> (u8, [u64; 6]) {
+fn answer(expr: &[u8], table: &[u8]) -> (u8, [u64; 7]) {
     let outcome = match oracle::evaluate(expr, table) {
         Ok(outcome) => outcome,
-        Err(number) => return (number, [0; 6]),
+        Err(refusal) => {
+            let offset = refusal.offset() as u64;
+            return (refusal.number, [0, 0, 0, 0, 0, 0, offset]);
+        }
     };
     let string = |kind, bytes: &[u8]| {
         let (memory, start) = place(expr, table, bytes);
-        [kind, 0, outcome.count, memory, start, bytes.len() as u64]
+        let len = bytes.len() as u64;
+        [kind, 0, outcome.count, memory, start, len, 0]
     };
     let numbers = match outcome.value {
-        Value::Number(number) => [0, number, outcome.count, 0, 0, 0],
+        Value::Number(number) => [0, number, outcome.count, 0, 0, 0, 0],
         Value::Text(bytes) => string(1, bytes),
         Value::Wide(bytes) => string(2, bytes),
     };
@@ -168,7 +182,7 @@ fn place(expr: &[u8], table: &[u8], part: &[u8]) -> (u64, u64) {
     unreachable!("the oracle's strings are parts of its inputs")
 }
 
-fn difference(expected: (u8, [u64; 6]), given: (u8, [u64; 6])) -> &'static str {
+fn difference(expected: (u8, [u64; 7]), given: (u8, [u64; 7])) -> &'static str {
     if expected.0 != given.0 {
         return "refusal";
     }
@@ -179,8 +193,9 @@ fn difference(expected: (u8, [u64; 6]), given: (u8, [u64; 6])) -> &'static str {
         "memory of the string",
         "start of the string",
         "length of the string",
+        "offset of the refusal",
     ];
-    let place = (0..6).find(|&place| expected.1[place] != given.1[place]);
+    let place = (0..7).find(|&place| expected.1[place] != given.1[place]);
     place.map_or("nothing", |place| names[place])
 }
 

@@ -1,9 +1,10 @@
-//! Bytes of data fields: refusals 1 to 12 and 23 to 26, and every byte.
+//! Bytes of data fields: refusals 1 to 12 and 23 to 26 with their offsets, and
+//! every byte.
 
 use crate::crash;
 use crate::evaluations::{write, TO_A_TABLE};
 use crate::gen::settings::{self, Names};
-use crate::gen::{fields as gen, tables};
+use crate::gen::{fields as gen, nested, tables};
 use crate::lent::{Input, Shown};
 use crate::library::{self, Field};
 use crate::prng::Prng;
@@ -64,6 +65,15 @@ impl Subject for Fields {
                     case.compare(room as u64 * 0x1111_1111_1111_1111, tally)?;
                 }
             }
+        }
+        for expr in nested::all() {
+            let case = Case {
+                expr: &expr,
+                table: &settings,
+                datum: 5,
+                room: 8,
+            };
+            case.compare(4, tally)?;
         }
         for (start, each) in [("'", 1), ("L'", 2)] {
             for count in [56, 57, 510, 511, 512, 1_020, 1_021, 1_022, 1_023] {
@@ -134,11 +144,12 @@ impl Case<'_> {
         let mut buffer = vec![pattern as u8; self.room];
         let outcome = oracle::field(self.expr, self.table, self.datum, &mut buffer);
         let expected = Field {
-            refusal: outcome.err().unwrap_or(0),
+            refusal: outcome.err().map_or(0, |refusal| refusal.number),
             length: outcome.map_or(0, |length| length as u64),
+            offset: outcome.err().map_or(0, |refusal| refusal.offset() as u64),
             buffer,
         };
-        tally.add(expected.refusal);
+        tally.add(expected.refusal, expected.offset);
         let given = crash::watched(self.expr, || {
             library::field(expr_at, table_at, self.datum, self.room, pattern)
         });
@@ -150,6 +161,8 @@ impl Case<'_> {
             "refusal"
         } else if given.length != expected.length {
             "length"
+        } else if given.offset != expected.offset {
+            "offset of the refusal"
         } else {
             "bytes of the buffer"
         };
@@ -179,8 +192,9 @@ impl Case<'_> {
 
 fn write_field(field: &Field) -> String {
     format!(
-        "refusal {}, length {}, buffer \"{}\"",
+        "refusal {}, offset {}, length {}, buffer \"{}\"",
         field.refusal,
+        field.offset,
         field.length,
         escaped(&field.buffer)
     )

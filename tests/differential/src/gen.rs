@@ -1,6 +1,7 @@
 //! Makes the inputs: expressions, tables, names and description files.
 
 mod bounds;
+mod broken;
 pub mod directives;
 pub mod disturbed;
 pub mod expressions;
@@ -13,7 +14,11 @@ mod groups;
 mod lexemes;
 mod names;
 mod neighbours;
+pub mod nested;
 mod numbers;
+mod places;
+pub mod refused_lines;
+pub mod rivals;
 pub mod searches;
 pub mod settings;
 pub mod short_files;

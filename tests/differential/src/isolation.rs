@@ -79,7 +79,7 @@ fn pair(rng: &mut Prng, file: &[u8], table: &[u8], tally: &mut Tally) -> Result<
         room: ROOM,
     };
     let answer = call(&first, rng.next())?;
-    tally.add(answer.refusal);
+    tally.add(answer.refusal, answer.offset);
     if answer.refusal != 0 {
         return Ok(false);
     }

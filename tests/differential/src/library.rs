@@ -35,6 +35,7 @@ pub fn lookup(table: Input, name: Input, pattern: u64) -> Result<(u8, [u64; 3]),
 pub struct Tokens {
     pub refusal: u64,
     pub count: u64,
+    pub offset: u64,
     pub codes: Buffer<u8>,
     pub starts: Buffer<u16>,
     pub lens: Buffer<u16>,
@@ -42,12 +43,12 @@ pub struct Tokens {
 }
 
 pub fn tokens(expr: Input, pattern: u64) -> Result<Tokens, String> {
-    let mut out = Buffer::new(2, pattern);
+    let mut out = Buffer::new(3, pattern);
     let mut codes = Buffer::new(MAX_TOKENS, pattern as u8);
     let mut starts = Buffer::new(MAX_TOKENS, pattern as u16);
     let mut lens = Buffer::new(MAX_TOKENS, !pattern as u16);
     let mut values = Buffer::new(MAX_TOKENS, !pattern);
-    // SAFETY: the input is valid for reads of its length; `out` has 2 numbers and the others 200 entries, each of its own.
+    // SAFETY: the input is valid for reads of its length; `out` has 3 numbers and the others 200 entries, each of its own.
     unsafe {
         korzhinay_tokens(
             expr.start(),
@@ -59,7 +60,7 @@ pub fn tokens(expr: Input, pattern: u64) -> Result<Tokens, String> {
             values.start(),
         )
     };
-    out.check("scan's two numbers")?;
+    out.check("scan's three numbers")?;
     codes.check("codes")?;
     starts.check("starts")?;
     lens.check("lengths")?;
@@ -67,6 +68,7 @@ pub fn tokens(expr: Input, pattern: u64) -> Result<Tokens, String> {
     Ok(Tokens {
         refusal: out.cells()[0],
         count: out.cells()[1],
+        offset: out.cells()[2],
         codes,
         starts,
         lens,
@@ -74,10 +76,10 @@ pub fn tokens(expr: Input, pattern: u64) -> Result<Tokens, String> {
     })
 }
 
-/// 0 or the refusal number, and the six numbers of an answer.
-pub fn evaluate(expr: Input, table: Input, pattern: u64) -> Result<(u8, [u64; 6]), String> {
-    let mut out = Buffer::new(6, pattern);
-    // SAFETY: inputs are valid for reads of their lengths; `out` has 6 numbers of its own.
+/// 0 or the refusal number, and the seven numbers of an answer.
+pub fn evaluate(expr: Input, table: Input, pattern: u64) -> Result<(u8, [u64; 7]), String> {
+    let mut out = Buffer::new(7, pattern);
+    // SAFETY: inputs are valid for reads of their lengths; `out` has 7 numbers of its own.
     let refusal = unsafe {
         korzhinay_evaluate(
             expr.start(),
@@ -87,8 +89,8 @@ pub fn evaluate(expr: Input, table: Input, pattern: u64) -> Result<(u8, [u64; 6]
             out.start(),
         )
     };
-    out.check("answer's six numbers")?;
-    let mut answer = [0; 6];
+    out.check("answer's seven numbers")?;
+    let mut answer = [0; 7];
     answer.copy_from_slice(out.cells());
     Ok((refusal, answer))
 }
@@ -98,6 +100,7 @@ pub fn evaluate(expr: Input, table: Input, pattern: u64) -> Result<(u8, [u64; 6]
 pub struct Field {
     pub refusal: u8,
     pub length: u64,
+    pub offset: u64,
     pub buffer: Vec<u8>,
 }
 
@@ -110,8 +113,8 @@ pub fn field(
     pattern: u64,
 ) -> Result<Field, String> {
     let mut buffer = Buffer::new(room, pattern as u8);
-    let mut written = Buffer::new(1, pattern);
-    // SAFETY: inputs are valid for reads of their lengths; the buffer has `room` bytes and `written` one number, each of its own.
+    let mut out = Buffer::new(2, pattern);
+    // SAFETY: inputs are valid for reads of their lengths; the buffer has `room` bytes and `out` two numbers, each of its own.
     let refusal = unsafe {
         korzhinay_field(
             buffer.start(),
@@ -121,14 +124,15 @@ pub fn field(
             table.start(),
             table.len(),
             datum,
-            written.start(),
+            out.start(),
         )
     };
     buffer.check("field's buffer")?;
-    written.check("field's length")?;
+    out.check("field's two numbers")?;
     Ok(Field {
         refusal,
-        length: written.cells()[0],
+        length: out.cells()[0],
+        offset: out.cells()[1],
         buffer: buffer.cells().to_vec(),
     })
 }
@@ -140,6 +144,7 @@ pub struct Selected {
     pub line: u64,
     pub lines: u64,
     pub count: u64,
+    pub offset: u64,
     pub marks: Vec<u8>,
 }
 
@@ -178,8 +183,8 @@ unsafe fn select_into(
     table: Input,
     pattern: u64,
 ) -> Result<Selected, String> {
-    let mut out = Buffer::new(3, pattern);
-    // SAFETY: inputs are valid for reads of their lengths, and `out` has 3 numbers of its own; the marks are as this function's
+    let mut out = Buffer::new(4, pattern);
+    // SAFETY: inputs are valid for reads of their lengths, and `out` has 4 numbers of its own; the marks are as this function's
     // terms say.
     let refusal = unsafe {
         korzhinay_select(
@@ -192,13 +197,14 @@ unsafe fn select_into(
             out.start(),
         )
     };
-    out.check("selection's three numbers")?;
-    let [line, lines, count] = [0, 1, 2].map(|place| out.cells()[place]);
+    out.check("selection's four numbers")?;
+    let [line, lines, count, offset] = [0, 1, 2, 3].map(|place| out.cells()[place]);
     Ok(Selected {
         refusal,
         line,
         lines,
         count,
+        offset,
         marks: Vec::new(),
     })
 }

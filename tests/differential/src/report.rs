@@ -13,6 +13,8 @@ pub struct Mismatch {
 /// How often each answer was met; 0 means an accepted input.
 pub struct Tally {
     answers: [u64; 256],
+    /// Those of them with an offset other than 0.
+    placed: [u64; 256],
     /// Further comparisons that have no refusal, such as lookups.
     pub extra: u64,
     /// Accepted files with a bar outside parentheses in a condition that is read.
@@ -23,17 +25,23 @@ impl Tally {
     pub fn new() -> Tally {
         Tally {
             answers: [0; 256],
+            placed: [0; 256],
             extra: 0,
             with_bars: 0,
         }
     }
 
-    pub fn add(&mut self, answer: u8) {
+    pub fn add(&mut self, answer: u8, offset: u64) {
         self.answers[usize::from(answer)] += 1;
+        self.placed[usize::from(answer)] += u64::from(offset != 0);
     }
 
     pub fn met(&self, answer: u8) -> u64 {
         self.answers[usize::from(answer)]
+    }
+
+    pub fn met_with_offset(&self, answer: u8) -> u64 {
+        self.placed[usize::from(answer)]
     }
 
     pub fn total(&self) -> u64 {

@@ -1,9 +1,10 @@
-//! Marks of description files: refusals 1, 3 to 7 and 9 to 22, and every byte.
+//! Marks of description files: refusals 1, 3 to 7 and 9 to 22 with their lines
+//! and offsets, and every byte.
 
 use crate::bars;
 use crate::crash;
 use crate::gen::settings::{self, Names};
-use crate::gen::{files, short_files, tables, values};
+use crate::gen::{files, nested, refused_lines, rivals, short_files, tables, values};
 use crate::lent::{Input, Shown};
 use crate::library::{self, Selected};
 use crate::prng::Prng;
@@ -53,7 +54,16 @@ impl Subject for Selections {
                 case.compare(0x77, tally)?;
             }
         }
+        for file in refused_lines::all() {
+            let case = Case {
+                file: &file,
+                table: &record,
+                room: line_count(&file),
+            };
+            case.compare(0x78, tally)?;
+        }
         short_conditions(tally)?;
+        refused_conditions(tally)?;
         long_names(tally)?;
         for room in 0..6 {
             for (index, file) in [&b""[..], b"\n", b"a\nb", b"!if 1\n!endif\n\n", b"!"]
@@ -104,6 +114,23 @@ fn without_bytes(tally: &mut Tally) -> Result<(), Mismatch> {
                 let given = crash::watched(file, || library::select(at, empty, 2, 4));
                 wide.check(given, 4, tally)?;
             }
+        }
+    }
+    Ok(())
+}
+
+/// Conditions with several reasons to be refused, as `!if` and as `!elseif`.
+fn refused_conditions(tally: &mut Tally) -> Result<(), Mismatch> {
+    let one_pcd = tables::record(b"g.P", 0, &[2, 0, 0, 0, 0, 0, 0, 0]);
+    for expr in [nested::all(), rivals::pairs()].concat() {
+        for (front, room) in [(&b"\t!if "[..], 2), (b"!if 0\r\n!elseif\t", 3)] {
+            let file = [front, &expr, b"\r\n!endif"].concat();
+            let case = Case {
+                file: &file,
+                table: &one_pcd,
+                room,
+            };
+            case.compare(8, tally)?;
         }
     }
     Ok(())
@@ -192,7 +219,7 @@ impl Case<'_> {
         tally: &mut Tally,
     ) -> Result<(), Mismatch> {
         let expected = self.expected(pattern);
-        tally.add(expected.refusal);
+        tally.add(expected.refusal, expected.offset);
         tally.extra += expected.lines;
         tally.with_bars += u64::from(bars::in_read_condition(self.file, &expected.marks));
         let given = given.map_err(|what| self.broken_memory(what))?;
@@ -211,11 +238,14 @@ impl Case<'_> {
     fn expected(&self, pattern: u64) -> Selected {
         let mut marks = vec![pattern as u8; self.room];
         let outcome = oracle::select(self.file, self.table, &mut marks);
-        let (refusal, line) = outcome.err().unwrap_or((0, 0));
         let (lines, count) = outcome.unwrap_or((0, 0));
+        let (refusal, line, offset) = outcome.err().map_or((0, 0, 0), |(refusal, line)| {
+            (refusal.number, line, refusal.offset())
+        });
         Selected {
             refusal,
             line: line as u64,
+            offset: offset as u64,
             lines: lines as u64,
             count,
             marks,
@@ -249,6 +279,7 @@ fn difference(expected: &Selected, given: &Selected) -> Option<String> {
             selected.line,
             selected.lines,
             selected.count,
+            selected.offset,
         ]
     };
     let names = [
@@ -256,9 +287,10 @@ fn difference(expected: &Selected, given: &Selected) -> Option<String> {
         "line of the refusal",
         "number of lines",
         "count of operators",
+        "offset of the refusal",
     ];
     let (expected_numbers, given_numbers) = (numbers(expected), numbers(given));
-    if let Some(place) = (0..4).find(|&place| expected_numbers[place] != given_numbers[place]) {
+    if let Some(place) = (0..5).find(|&place| expected_numbers[place] != given_numbers[place]) {
         return Some(names[place].to_string());
     }
     let place =
@@ -271,8 +303,8 @@ fn difference(expected: &Selected, given: &Selected) -> Option<String> {
 
 pub fn write_selected(selected: &Selected) -> String {
     let mut out = format!(
-        "refusal {}, line {}, {} lines, count {}, marks",
-        selected.refusal, selected.line, selected.lines, selected.count
+        "refusal {}, line {}, offset {}, {} lines, count {}, marks",
+        selected.refusal, selected.line, selected.offset, selected.lines, selected.count
     );
     for run in selected.marks.chunk_by(|one, other| one == other) {
         out += &match run.len() {

@@ -1,6 +1,7 @@
 //! A subject is one part of the library that is compared. To add one, write
 //! a file with a `Subject` and put it into the list in `main`.
 
+use std::ops::RangeInclusive;
 use std::time::{Duration, Instant};
 
 use oracle::refusal::meaning;
@@ -8,6 +9,9 @@ use oracle::refusal::meaning;
 use crate::crash;
 use crate::prng::Prng;
 use crate::report::{Mismatch, Tally};
+
+/// The refusals that have an offset (document 02, order 3).
+const PLACED: RangeInclusive<u8> = 3..=12;
 
 pub trait Subject {
     fn name(&self) -> &'static str;
@@ -104,9 +108,12 @@ pub fn run(subject: &dyn Subject, load: &Load) -> bool {
     }
     if load.only.is_none() {
         for &number in subject.needed() {
+            let what = meaning(number);
             if random.met(number) == 0 {
-                let what = meaning(number);
                 println!("{name}: refusal {number} ({what}) was never met");
+                complete = false;
+            } else if PLACED.contains(&number) && random.met_with_offset(number) == 0 {
+                println!("{name}: refusal {number} ({what}) was never met with an offset above 0");
                 complete = false;
             }
         }

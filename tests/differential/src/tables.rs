@@ -139,7 +139,7 @@ impl<'a> Case<'a> {
     fn check(table: &'a [u8], at: Input<'a>, tally: &mut Tally) -> Result<Case<'a>, Mismatch> {
         let well_formed = oracle::is_well_formed(table);
         let expected = u8::from(!well_formed);
-        tally.add(expected);
+        tally.add(expected, 0);
         let given = crash::watched(table, || library::table(at));
         if given == expected {
             return Ok(Case {

@@ -1,4 +1,5 @@
-//! Tokens of an expression: refusals 2 to 6 and what was read before them.
+//! Tokens of an expression: refusals 2 to 6 with their offsets, and what was
+//! read before them.
 
 use oracle::tokens::{Scan, MAX_TOKENS};
 
@@ -72,7 +73,8 @@ fn compare(expr: &[u8], pattern: u64, tally: &mut Tally) -> Result<(), Mismatch>
 /// Compares the scan of `expr`, which the library finds at `input`.
 fn compare_at(input: Input, expr: &[u8], pattern: u64, tally: &mut Tally) -> Result<(), Mismatch> {
     let scan = oracle::scan(expr);
-    tally.add(scan.refusal.unwrap_or(0));
+    let (refusal, offset) = refusal(&scan);
+    tally.add(refusal, offset);
     let given = crash::watched(expr, || library::tokens(input, pattern));
     let (what, library) = match given {
         Err(what) => (what, "does".to_string()),
@@ -89,11 +91,20 @@ fn compare_at(input: Input, expr: &[u8], pattern: u64, tally: &mut Tally) -> Res
     })
 }
 
+/// The oracle's refusal and its offset, 0 without one.
+fn refusal(scan: &Scan) -> (u8, u64) {
+    scan.refusal
+        .map_or((0, 0), |refusal| (refusal.number, refusal.offset() as u64))
+}
+
 /// The first thing in which the two scans differ, if any.
 fn difference(scan: &Scan, tokens: &library::Tokens) -> Option<String> {
-    let refusal = u64::from(scan.refusal.unwrap_or(0));
-    if tokens.refusal != refusal {
+    let (refusal, offset) = refusal(scan);
+    if tokens.refusal != u64::from(refusal) {
         return Some("refusal".to_string());
+    }
+    if tokens.offset != offset {
+        return Some("offset of the refusal".to_string());
     }
     if tokens.count != scan.tokens.len() as u64 {
         return Some("number of tokens".to_string());
@@ -135,8 +146,9 @@ fn difference(scan: &Scan, tokens: &library::Tokens) -> Option<String> {
 }
 
 fn write_oracle(scan: &Scan) -> String {
-    let mut out = format!("refusal {}", scan.refusal.unwrap_or(0));
-    out += &format!(", {} tokens", scan.tokens.len());
+    let (refusal, offset) = refusal(scan);
+    let count = scan.tokens.len();
+    let mut out = format!("refusal {refusal}, offset {offset}, {count} tokens");
     for token in &scan.tokens {
         out += &write_token(token.code, token.start, token.len, token.value);
     }
@@ -144,7 +156,10 @@ fn write_oracle(scan: &Scan) -> String {
 }
 
 fn write_library(tokens: &library::Tokens) -> String {
-    let mut out = format!("refusal {}, {} tokens", tokens.refusal, tokens.count);
+    let mut out = format!(
+        "refusal {}, offset {}, {} tokens",
+        tokens.refusal, tokens.offset, tokens.count
+    );
     for place in 0..MAX_TOKENS.min(tokens.count as usize) {
         out += &write_token(
             tokens.codes.cells()[place],

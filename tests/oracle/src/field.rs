@@ -1,7 +1,7 @@
 //! The bytes of one PCD data field (document 01, Field bytes).
 
 use crate::expression::{evaluate, Value};
-use crate::refusal;
+use crate::refusal::{self, Refusal};
 
 /// The datum codes.
 pub mod datum {
@@ -15,8 +15,13 @@ pub mod datum {
 
 /// Writes the field to the front of `buf` and gives its length. A refusal
 /// writes nothing, so the length is compared before the first byte is written.
-pub fn field(expr: &[u8], table: &[u8], datum: u8, buf: &mut [u8]) -> Result<usize, u8> {
+pub fn field(expr: &[u8], table: &[u8], datum: u8, buf: &mut [u8]) -> Result<usize, Refusal> {
     let value = evaluate(expr, table)?.value;
+    write(value, datum, buf).map_err(Refusal::nowhere)
+}
+
+/// Gives refusals 23 to 26, which have no place.
+fn write(value: Value, datum: u8, buf: &mut [u8]) -> Result<usize, u8> {
     if datum > datum::UINT64 {
         return Err(refusal::DATUM);
     }

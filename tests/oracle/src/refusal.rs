@@ -1,4 +1,43 @@
-//! The refusal numbers (document 01, Refusal numbers).
+//! The refusal numbers (document 01, Refusal numbers), and a refusal with its
+//! place (document 02, order 3).
+
+/// A refusal's number, and for 3 to 12 the place that it is about: a byte
+/// counted from the start of the expression, or of the line in a selection.
+#[derive(Clone, Copy, Debug, PartialEq, Eq)]
+pub struct Refusal {
+    pub number: u8,
+    pub place: Option<usize>,
+}
+
+impl Refusal {
+    /// A refusal that is about a whole table, file, line, value or buffer.
+    pub const fn nowhere(number: u8) -> Refusal {
+        Refusal {
+            number,
+            place: None,
+        }
+    }
+
+    pub fn at(number: u8, place: usize) -> Refusal {
+        Refusal {
+            number,
+            place: Some(place),
+        }
+    }
+
+    /// The same refusal, its place counted from `bytes` bytes further left.
+    pub fn after(self, bytes: usize) -> Refusal {
+        Refusal {
+            place: self.place.map(|place| bytes + place),
+            ..self
+        }
+    }
+
+    /// The offset that it carries, which is 0 where it has no place.
+    pub fn offset(self) -> usize {
+        self.place.unwrap_or(0)
+    }
+}
 
 /// The table breaks one of its rules.
 pub const TABLE: u8 = 1;

@@ -1,16 +1,20 @@
 //! Which lines of a file are kept (document 01, Lines and directives, and
-//! document 02, order 1).
+//! document 02, orders 1 and 3).
 
 use crate::bytes::{is_blank, macro_length, skip_blanks};
 use crate::expression::{evaluate_with, Bars, Value};
 use crate::lines::{lines, sort, Line, Word};
-use crate::refusal;
+use crate::refusal::{self, Refusal};
 use crate::table::{is_well_formed, lookup};
 
 pub const MAX_FILE: usize = 65_536;
 pub const MAX_LINES: usize = 4_096;
 pub const MAX_LINE: usize = 1_024;
 pub const MAX_GROUPS: usize = 16;
+
+// The refusals that more than one place gives.
+const NESTING: Refusal = Refusal::nowhere(refusal::NESTING);
+const ARGUMENT: Refusal = Refusal::nowhere(refusal::ARGUMENT);
 
 /// The values of a mark byte.
 pub mod mark {
@@ -23,8 +27,9 @@ pub mod mark {
     pub const REFUSED: u8 = 255;
 }
 
-/// Number of lines and sum of operator counts, or refusal number and line.
-pub type Selection = Result<(usize, u64), (u8, usize)>;
+/// Number of lines and sum of operator counts, or refusal and its line. The
+/// refusal's place is counted from the start of that line.
+pub type Selection = Result<(usize, u64), (Refusal, usize)>;
 
 /// Marks every line of the file. A refusal sets all of `marks` to 255.
 pub fn select(file: &[u8], table: &[u8], marks: &mut [u8]) -> Selection {
@@ -37,17 +42,17 @@ pub fn select(file: &[u8], table: &[u8], marks: &mut [u8]) -> Selection {
 
 fn run(file: &[u8], table: &[u8], marks: &mut [u8]) -> Selection {
     if !is_well_formed(table) {
-        return Err((refusal::TABLE, 0));
+        return Err((Refusal::nowhere(refusal::TABLE), 0));
     }
     if file.len() > MAX_FILE {
-        return Err((refusal::FILE_LENGTH, 0));
+        return Err((Refusal::nowhere(refusal::FILE_LENGTH), 0));
     }
     let total = lines(file).count();
     if total > MAX_LINES {
-        return Err((refusal::LINE_COUNT, 0));
+        return Err((Refusal::nowhere(refusal::LINE_COUNT), 0));
     }
     if marks.len() < total {
-        return Err((refusal::MARKS, 0));
+        return Err((Refusal::nowhere(refusal::MARKS), 0));
     }
     let mut state = State {
         table,
@@ -56,10 +61,12 @@ fn run(file: &[u8], table: &[u8], marks: &mut [u8]) -> Selection {
     };
     for (index, line) in lines(file).enumerate() {
         let number = index + 1;
-        marks[index] = state.step(line, number).map_err(|no| (no, number))?;
+        marks[index] = state
+            .step(line, number)
+            .map_err(|refusal| (refusal, number))?;
     }
     match state.groups.last() {
-        Some(group) => Err((refusal::OPEN_END, group.opened)),
+        Some(group) => Err((Refusal::nowhere(refusal::OPEN_END), group.opened)),
         None => Ok((total, state.count)),
     }
 }
@@ -85,26 +92,38 @@ struct State<'a> {
 }
 
 impl State<'_> {
-    /// The mark of the next line, or the number of its refusal.
-    fn step(&mut self, line: &[u8], number: usize) -> Result<u8, u8> {
+    /// The mark of the next line, or its refusal.
+    fn step(&mut self, line: &[u8], number: usize) -> Result<u8, Refusal> {
         if line.len() > MAX_LINE {
-            return Err(refusal::LINE_LENGTH);
+            return Err(Refusal::nowhere(refusal::LINE_LENGTH));
         }
         let live = self.groups.last().is_none_or(|group| group.taken);
-        match sort(line)? {
+        match sort(line).map_err(Refusal::nowhere)? {
             Line::Plain => Ok(if live { mark::KEPT } else { mark::DROPPED }),
-            Line::Directive { word, argument } => match word {
-                Word::If | Word::Ifdef | Word::Ifndef => self.open(word, argument, live, number),
-                Word::Elseif => self.next_branch(argument),
-                Word::Else => self.last_branch(argument),
-                Word::Endif => self.close(argument),
-            },
+            Line::Directive { word, argument } => {
+                let before = line.len() - argument.len();
+                match word {
+                    Word::If | Word::Ifdef | Word::Ifndef => {
+                        self.open(word, argument, live, number)
+                    }
+                    Word::Elseif => self.next_branch(argument),
+                    Word::Else => self.last_branch(argument),
+                    Word::Endif => self.close(argument),
+                }
+                .map_err(|refusal| refusal.after(before))
+            }
         }
     }
 
-    fn open(&mut self, word: Word, argument: &[u8], live: bool, line: usize) -> Result<u8, u8> {
+    fn open(
+        &mut self,
+        word: Word,
+        argument: &[u8],
+        live: bool,
+        line: usize,
+    ) -> Result<u8, Refusal> {
         if self.groups.len() == MAX_GROUPS {
-            return Err(refusal::GROUPS);
+            return Err(Refusal::nowhere(refusal::GROUPS));
         }
         let taken = live && self.condition(word, argument)?;
         // A group in a dropped branch is kept track of all the same: its own
@@ -119,7 +138,7 @@ impl State<'_> {
         Ok(branch_mark(live, taken))
     }
 
-    fn next_branch(&mut self, argument: &[u8]) -> Result<u8, u8> {
+    fn next_branch(&mut self, argument: &[u8]) -> Result<u8, Refusal> {
         let group = self.group_before_else()?;
         let read = group.around && !group.any_taken;
         let taken = read && self.condition(Word::Elseif, argument)?;
@@ -129,7 +148,7 @@ impl State<'_> {
         Ok(branch_mark(read, taken))
     }
 
-    fn last_branch(&mut self, argument: &[u8]) -> Result<u8, u8> {
+    fn last_branch(&mut self, argument: &[u8]) -> Result<u8, Refusal> {
         let group = self.group_before_else()?;
         group.after_else = true;
         if group.around {
@@ -141,8 +160,8 @@ impl State<'_> {
         Ok(branch_mark(group.around, taken))
     }
 
-    fn close(&mut self, argument: &[u8]) -> Result<u8, u8> {
-        let group = self.groups.pop().ok_or(refusal::NESTING)?;
+    fn close(&mut self, argument: &[u8]) -> Result<u8, Refusal> {
+        let group = self.groups.pop().ok_or(NESTING)?;
         if !group.around {
             return Ok(mark::UNREAD);
         }
@@ -150,17 +169,18 @@ impl State<'_> {
         Ok(mark::END)
     }
 
-    fn group_before_else(&mut self) -> Result<&mut Group, u8> {
+    fn group_before_else(&mut self) -> Result<&mut Group, Refusal> {
         self.groups
             .last_mut()
             .filter(|group| !group.after_else)
-            .ok_or(refusal::NESTING)
+            .ok_or(NESTING)
     }
 
-    /// Reads the argument of a directive that has a condition.
-    fn condition(&mut self, word: Word, argument: &[u8]) -> Result<bool, u8> {
+    /// Reads the argument of a directive that has a condition. Places are
+    /// counted from the start of the argument.
+    fn condition(&mut self, word: Word, argument: &[u8]) -> Result<bool, Refusal> {
         if !argument.first().is_some_and(|&byte| is_blank(byte)) {
-            return Err(refusal::ARGUMENT);
+            return Err(ARGUMENT);
         }
         match word {
             Word::Ifdef => self.defined(argument),
@@ -171,14 +191,14 @@ impl State<'_> {
                 match outcome.value {
                     Value::Number(0) => Ok(false),
                     Value::Number(1) => Ok(true),
-                    _ => Err(refusal::CONDITION),
+                    _ => Err(Refusal::nowhere(refusal::CONDITION)),
                 }
             }
         }
     }
 
     /// Whether the one macro that the argument names is in the table.
-    fn defined(&self, argument: &[u8]) -> Result<bool, u8> {
+    fn defined(&self, argument: &[u8]) -> Result<bool, Refusal> {
         let text = skip_blanks(argument);
         let (text, bracketed) = match text {
             [b'$', b'(', inside @ ..] => (inside, true),
@@ -186,10 +206,10 @@ impl State<'_> {
         };
         let (name, mut rest) = text.split_at(macro_length(text));
         if name.is_empty() {
-            return Err(refusal::ARGUMENT);
+            return Err(ARGUMENT);
         }
         if bracketed {
-            rest = rest.strip_prefix(b")").ok_or(refusal::ARGUMENT)?;
+            rest = rest.strip_prefix(b")").ok_or(ARGUMENT)?;
         }
         check_nothing(rest)?;
         Ok(lookup(self.table, name).is_some())
@@ -205,9 +225,9 @@ fn branch_mark(read: bool, taken: bool) -> u8 {
 }
 
 /// Only blanks and a comment may be here.
-fn check_nothing(text: &[u8]) -> Result<(), u8> {
+fn check_nothing(text: &[u8]) -> Result<(), Refusal> {
     match skip_blanks(text) {
         [] | [b'#', ..] => Ok(()),
-        _ => Err(refusal::ARGUMENT),
+        _ => Err(ARGUMENT),
     }
 }

@@ -1,7 +1,7 @@
 //! From the bytes of an expression to its tokens (document 01, Tokens).
 
 use crate::bytes::{count_while, is_blank, is_run, macro_length, pcd_length};
-use crate::refusal;
+use crate::refusal::{self, Refusal};
 
 pub const MAX_BYTES: usize = 1024;
 pub const MAX_TOKENS: usize = 200;
@@ -59,7 +59,7 @@ pub struct Token {
 #[derive(Clone, Debug, PartialEq, Eq)]
 pub struct Scan {
     pub tokens: Vec<Token>,
-    pub refusal: Option<u8>,
+    pub refusal: Option<Refusal>,
 }
 
 /// Reads the whole expression; gives refusals 2 to 6.
@@ -69,9 +69,9 @@ pub fn scan(expr: &[u8]) -> Scan {
     Scan { tokens, refusal }
 }
 
-fn read_all(expr: &[u8], tokens: &mut Vec<Token>) -> Result<(), u8> {
+fn read_all(expr: &[u8], tokens: &mut Vec<Token>) -> Result<(), Refusal> {
     if expr.len() > MAX_BYTES {
-        return Err(refusal::EXPRESSION_LENGTH);
+        return Err(Refusal::nowhere(refusal::EXPRESSION_LENGTH));
     }
     let mut start = 0;
     loop {
@@ -82,9 +82,9 @@ fn read_all(expr: &[u8], tokens: &mut Vec<Token>) -> Result<(), u8> {
         }
         // Before the token is read: anything after token 200 is 5.
         if tokens.len() == MAX_TOKENS {
-            return Err(refusal::TOKEN_COUNT);
+            return Err(Refusal::at(refusal::TOKEN_COUNT, start));
         }
-        let (code, len, value) = read_one(rest)?;
+        let (code, len, value) = read_one(rest).map_err(|number| Refusal::at(number, start))?;
         tokens.push(Token {
             code,
             start,
@@ -93,37 +93,31 @@ fn read_all(expr: &[u8], tokens: &mut Vec<Token>) -> Result<(), u8> {
         });
         start += len;
     }
-    check_depth(tokens)
-}
-
-/// The difference may go below zero and come back, so it is signed.
-fn check_depth(tokens: &[Token]) -> Result<(), u8> {
-    let mut depth: i64 = 0;
-    for token in tokens {
-        match token.code {
-            code::OPEN => depth += 1,
-            code::CLOSE => depth -= 1,
-            _ => {}
-        }
-        if depth > MAX_DEPTH {
-            return Err(refusal::DEPTH);
-        }
+    match with_depth(tokens).find(|(_, depth)| *depth > MAX_DEPTH) {
+        Some((token, _)) => Err(Refusal::at(refusal::DEPTH, token.start)),
+        None => Ok(()),
     }
-    Ok(())
 }
 
-/// Whether a `|` or `||` is outside all parentheses, in tokens that have a
-/// derivation. `OR` is no bar.
-pub fn has_bar_outside(tokens: &[Token]) -> bool {
-    let mut depth = 0;
-    tokens.iter().any(|token| {
+/// Each token with how many more `(` than `)` there are up to it, itself
+/// counted. The difference may go below zero and come back, so it is signed.
+fn with_depth(tokens: &[Token]) -> impl Iterator<Item = (&Token, i64)> {
+    tokens.iter().scan(0, |depth, token| {
         match token.code {
-            code::OPEN => depth += 1,
-            code::CLOSE => depth -= 1,
+            code::OPEN => *depth += 1,
+            code::CLOSE => *depth -= 1,
             _ => {}
         }
-        depth == 0 && matches!(token.code, code::BIT_OR | code::OR_BARS)
+        Some((token, *depth))
     })
+}
+
+/// The leftmost `|` or `||` outside all parentheses, in tokens that have a
+/// derivation. `OR` is no bar.
+pub fn bar_outside(tokens: &[Token]) -> Option<&Token> {
+    with_depth(tokens)
+        .find(|(token, depth)| *depth == 0 && matches!(token.code, code::BIT_OR | code::OR_BARS))
+        .map(|(token, _)| token)
 }
 
 /// Code, length and value of the token at the front of `rest`.

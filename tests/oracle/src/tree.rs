@@ -5,15 +5,18 @@ use crate::tokens::{code, Token};
 /// Place of a node in its tree.
 pub type NodeId = usize;
 
-/// One operand or operator. Operators keep the code of their token.
+/// Number of a token, counted from 0.
+pub type TokenId = usize;
+
+/// One operand or operator, by its token.
 #[derive(Clone, Copy, Debug, PartialEq, Eq)]
 pub enum Node {
-    /// A primary that is no parenthesis, by its token's number.
-    Operand(usize),
-    Unary(u8, NodeId),
-    Binary(u8, NodeId, NodeId),
-    /// Test, then the arm for true, then the arm for false.
-    Choice(NodeId, NodeId, NodeId),
+    /// A primary that is no parenthesis.
+    Operand(TokenId),
+    Unary(TokenId, NodeId),
+    Binary(TokenId, NodeId, NodeId),
+    /// The `?`, then test, arm for true and arm for false.
+    Choice(TokenId, NodeId, NodeId, NodeId),
 }
 
 /// Parentheses leave no node, since they are no operators.
@@ -82,21 +85,23 @@ impl Parser<'_> {
     /// Level 13. The last arm is a choice again, so it groups to the right.
     fn expression(&mut self) -> Option<NodeId> {
         let test = self.binary(LOOSEST)?;
+        let question = self.next;
         if self.take(code::QUESTION).is_none() {
             return Some(test);
         }
         let yes = self.expression()?;
         self.take(code::COLON)?;
         let no = self.expression()?;
-        Some(self.add(Node::Choice(test, yes, no)))
+        Some(self.add(Node::Choice(question, test, yes, no)))
     }
 
     /// Levels 2 to 12, as far as `loosest`. The right operand of an operator
     /// stops before the operator's own level, so equals group to the left.
     fn binary(&mut self, loosest: u8) -> Option<NodeId> {
         let mut left = self.unary()?;
-        while let Some(operator) = self.peek() {
-            match level(operator) {
+        while let Some(code) = self.peek() {
+            let operator = self.next;
+            match level(code) {
                 Some(level) if level <= loosest => {
                     self.next += 1;
                     let right = self.binary(level - 1)?;
@@ -111,7 +116,8 @@ impl Parser<'_> {
     /// Level 1.
     fn unary(&mut self) -> Option<NodeId> {
         match self.peek()? {
-            operator @ (code::NOT | code::PLUS | code::MINUS | code::COMPLEMENT) => {
+            code::NOT | code::PLUS | code::MINUS | code::COMPLEMENT => {
+                let operator = self.next;
                 self.next += 1;
                 let inner = self.unary()?;
                 Some(self.add(Node::Unary(operator, inner)))

@@ -5,7 +5,7 @@ mod common;
 use common::*;
 use oracle::table::CONTENT;
 use oracle::tokens::code;
-use oracle::{evaluate, field, is_well_formed, lookup, scan, select, Setting, Value};
+use oracle::{evaluate, field, is_well_formed, lookup, scan, select, Refusal, Setting, Value};
 
 #[test]
 fn small_ones_to_prove() {
@@ -122,7 +122,7 @@ fn runs() {
         let scan = scan(expr.as_bytes());
         match (scan.refusal, scan.tokens.as_slice()) {
             (None, [token]) if token.len == expr.len() => Ok((token.code, token.value)),
-            (refusal, _) => Err(refusal),
+            (refusal, _) => Err(refusal.map(|refusal| refusal.number)),
         }
     };
     assert_eq!(one("0"), Ok((code::NUMBER, 0)));
@@ -191,7 +191,10 @@ fn leftmost_of_three_four_five() {
 fn order_of_refusals_in_an_expression() {
     // One expression that has every fault, mended from the front.
     let long = " ".repeat(1_025);
-    assert_eq!(evaluate(long.as_bytes(), &[1]).err(), Some(1));
+    assert_eq!(
+        evaluate(long.as_bytes(), &[1]).err(),
+        Some(Refusal::nowhere(1))
+    );
     assert_eq!(number_of(&long), Err(2));
     assert_eq!(number_of(&" ".repeat(1_024)), Err(7));
     let deep = "(".repeat(17);
@@ -665,12 +668,13 @@ fn conditions() {
 fn limits_of_a_file() {
     let mut marks = vec![7; 5_000];
     let long = vec![b'\n'; 65_537];
-    assert_eq!(select(&long, &[1], &mut marks), Err((1, 0)));
-    assert_eq!(select(&long, &[], &mut marks), Err((14, 0)));
-    assert_eq!(select(&long[..4_097], &[], &mut []), Err((15, 0)));
+    let refused = |number| Err((Refusal::nowhere(number), 0));
+    assert_eq!(select(&long, &[1], &mut marks), refused(1));
+    assert_eq!(select(&long, &[], &mut marks), refused(14));
+    assert_eq!(select(&long[..4_097], &[], &mut []), refused(15));
     assert_eq!(
         select(&long[..4_096], &[], &mut marks[..4_095]),
-        Err((16, 0))
+        refused(16)
     );
     marks.fill(7);
     assert_eq!(select(&long[..4_096], &[], &mut marks), Ok((4_096, 0)));
@@ -705,7 +709,7 @@ fn order_within_a_line() {
 /// The field's bytes, in a buffer that shows what was written.
 fn bytes_of(expr: &str, datum: u8, room: usize) -> Result<Vec<u8>, u8> {
     let mut buffer = vec![0xAA; room];
-    let result = field(expr.as_bytes(), &[], datum, &mut buffer);
+    let result = unplaced(field(expr.as_bytes(), &[], datum, &mut buffer));
     let written = *result.as_ref().unwrap_or(&0);
     assert!(buffer[written..].iter().all(|&byte| byte == 0xAA));
     result.map(|length| buffer[..length].to_vec())
@@ -754,7 +758,7 @@ fn field_refusals() {
     assert_eq!(bytes_of("1", 5, 7), Err(26));
     assert_eq!(bytes_of("'ab'", 0, 2), Err(26));
     assert_eq!(bytes_of("L'ab'", 0, 5), Err(26));
-    assert_eq!(field(b"1", &[0], 5, &mut [0; 8]), Err(1));
+    assert_eq!(field(b"1", &[0], 5, &mut [0; 8]), Err(Refusal::nowhere(1)));
 }
 
 #[test]

@@ -28,8 +28,8 @@ const LEVELS: [&[u8]; 11] = [
     &[code::OR, code::OR_BARS],
 ];
 
-/// Every derivation of `codes` at a level, each written with brackets. The
-/// first token's number is `from`.
+/// Every derivation of `codes` at a level, each written with brackets and the
+/// tokens by their numbers. The first token's number is `from`.
 fn derivations(level: usize, codes: &[u8], from: usize) -> Vec<String> {
     if codes.is_empty() {
         return Vec::new();
@@ -47,7 +47,7 @@ fn derivations(level: usize, codes: &[u8], from: usize) -> Vec<String> {
                     }
                     for left in derivations(level, &codes[..at], from) {
                         for right in &right {
-                            found.push(format!("[{left} {} {right}]", codes[at]));
+                            found.push(format!("[{left} {} {right}]", from + at));
                         }
                     }
                 }
@@ -59,10 +59,10 @@ fn derivations(level: usize, codes: &[u8], from: usize) -> Vec<String> {
 
 fn unary(codes: &[u8], from: usize) -> Vec<String> {
     match codes {
-        [operator @ (code::NOT | code::COMPLEMENT | code::PLUS | code::MINUS), rest @ ..] => {
+        [code::NOT | code::COMPLEMENT | code::PLUS | code::MINUS, rest @ ..] => {
             derivations(1, rest, from + 1)
                 .into_iter()
-                .map(|inner| format!("[{operator} {inner}]"))
+                .map(|inner| format!("[{from} {inner}]"))
                 .collect()
         }
         [code::OPEN, inside @ .., code::CLOSE] => derivations(13, inside, from + 1),
@@ -86,7 +86,8 @@ fn choice(codes: &[u8], from: usize) -> Vec<String> {
             for yes in derivations(13, arms, from + question + 1) {
                 for no in derivations(13, &codes[colon + 1..], from + colon + 1) {
                     for test in &tests {
-                        found.push(format!("[{test} ? {yes} : {no}]"));
+                        let question = from + question;
+                        found.push(format!("[{test} {question}? {yes} : {no}]"));
                     }
                 }
             }
@@ -103,8 +104,8 @@ fn written(tree: &Tree, node: usize) -> String {
             let (left, right) = (written(tree, left), written(tree, right));
             format!("[{left} {operator} {right}]")
         }
-        Node::Choice(test, yes, no) => format!(
-            "[{} ? {} : {}]",
+        Node::Choice(question, test, yes, no) => format!(
+            "[{} {question}? {} : {}]",
             written(tree, test),
             written(tree, yes),
             written(tree, no)

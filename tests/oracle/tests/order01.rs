@@ -37,9 +37,9 @@ fn condition(text: &str) -> Result<(u8, u64), u8> {
 /// The refusal of an expression by itself. A field has to give the same, and
 /// before it looks at the datum code and the buffer.
 fn refusal_alone(text: &str, table: &[u8]) -> Option<u8> {
-    let refusal = evaluate(text.as_bytes(), table).err();
+    let refusal = unplaced(evaluate(text.as_bytes(), table)).err();
     for datum in [0, 5, 255] {
-        let written = field(text.as_bytes(), table, datum, &mut []);
+        let written = unplaced(field(text.as_bytes(), table, datum, &mut []));
         assert!(refusal.is_none() || written.err() == refusal, "{text}");
     }
     refusal
@@ -388,9 +388,9 @@ fn a_condition_is_as_the_enclosed_expression() {
     for _ in 0..20_000 {
         let text = any_text(&mut rng);
         let enclosed = format!("({text})");
-        let alone = evaluate(text.as_bytes(), &table);
+        let alone = unplaced(evaluate(text.as_bytes(), &table));
         let expected = match alone {
-            Err(8) => evaluate(enclosed.as_bytes(), &table),
+            Err(8) => unplaced(evaluate(enclosed.as_bytes(), &table)),
             other => other,
         }
         .and_then(|outcome| match outcome.value {

@@ -3,7 +3,7 @@
 mod common;
 
 use common::*;
-use oracle::{evaluate, field, is_well_formed, scan, select, Value};
+use oracle::{evaluate, field, is_well_formed, scan, select, Refusal, Value};
 
 #[test]
 fn a1_else_and_endif_need_no_blank() {
@@ -37,7 +37,8 @@ fn a3_no_expression_after_the_blank() {
 fn a4_a_good_token_stands_before_a_bad_byte() {
     let read = |expr: &str| {
         let scan = scan(expr.as_bytes());
-        (scan.refusal, scan.tokens.len())
+        let number = scan.refusal.map(|refusal| refusal.number);
+        (number, scan.tokens.len())
     };
     for expr in ["1.a", "a.b.c", "AND.1", "==="] {
         assert_eq!(read(expr), (Some(3), 1), "{expr}");
@@ -150,10 +151,11 @@ fn a13_an_empty_string_part_has_no_bytes() {
 #[test]
 fn a14_early_refusals_change_the_marks_too() {
     let mut marks = [7; 3];
-    assert_eq!(select(b"a\nb\nc\nd", &[], &mut marks), Err((16, 0)));
+    let refused = |number| Err((Refusal::nowhere(number), 0));
+    assert_eq!(select(b"a\nb\nc\nd", &[], &mut marks), refused(16));
     assert_eq!(marks, [255; 3]);
     let mut marks = [7; 9];
-    assert_eq!(select(b"a", &[1], &mut marks), Err((1, 0)));
+    assert_eq!(select(b"a", &[1], &mut marks), refused(1));
     assert_eq!(marks, [255; 9]);
 }
 

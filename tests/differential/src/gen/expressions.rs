@@ -86,6 +86,17 @@ fn join_unevenly(rng: &mut Prng, pieces: &[Vec<u8>]) -> Vec<u8> {
     out
 }
 
+/// At least one blank between any two.
+pub fn join_apart(rng: &mut Prng, pieces: &[Vec<u8>]) -> Vec<u8> {
+    let mut out = Vec::new();
+    for piece in pieces {
+        out.extend(piece);
+        let blanks: &[u8] = rng.pick(&[&b" "[..], b" ", b"\t", b"  ", b" \t "]);
+        out.extend(blanks);
+    }
+    out
+}
+
 pub fn join_well(rng: &mut Prng, pieces: &[Vec<u8>]) -> Vec<u8> {
     match rng.below(2) {
         0 => join_tightly(pieces),

@@ -3,13 +3,14 @@
 use super::bounds::near_a_limit;
 use super::directives::{condition, name, plain, rubbish, BLANKS, NEARLY_WORDS, WORDS};
 use super::groups::{deep, nested};
+use super::refused_lines;
 use super::settings::Names;
 use super::twins::spoil;
 use crate::prng::Prng;
 
 /// Any file.
 pub fn any(rng: &mut Prng, names: &Names, table: &[u8]) -> Vec<u8> {
-    match rng.below(24) {
+    match rng.below(28) {
         0 => random_bytes(rng),
         1..=4 => soup(rng, names),
         5..=9 => {
@@ -30,6 +31,10 @@ pub fn any(rng: &mut Prng, names: &Names, table: &[u8]) -> Vec<u8> {
         15..=19 => {
             let file = good(rng, names);
             spoil(rng, &file, table)
+        }
+        20..=23 => {
+            let lines = refused_lines::any(rng, names);
+            join(rng, &lines)
         }
         _ => good(rng, names),
     }

@@ -47,8 +47,35 @@ impl Place {
     }
 }
 
+/// How often an operand is one that is refused: one in so many, 0 for never.
+#[derive(Clone, Copy)]
+pub struct Faults {
+    /// Of another kind than its operator takes.
+    pub kind: usize,
+    /// A PCD that no table has.
+    pub missing: usize,
+    /// With an operator that has no result, unless it is skipped.
+    pub value: usize,
+}
+
+const FEW: Faults = Faults {
+    kind: 120,
+    missing: 0,
+    value: 0,
+};
+
 /// An expression of this kind, or of any if none is given.
 pub fn formula(rng: &mut Prng, names: &Names, kind: Option<Kind>, place: Place) -> Vec<u8> {
+    let mut pieces = written(rng, names, kind, FEW);
+    if bar_outside(&pieces) && !place.leaves_bars(rng) {
+        pieces.insert(0, b"(".to_vec());
+        pieces.push(b")".to_vec());
+    }
+    join_well(rng, &pieces)
+}
+
+/// The tokens of a formula.
+pub fn written(rng: &mut Prng, names: &Names, kind: Option<Kind>, faults: Faults) -> Vec<Vec<u8>> {
     let size = match rng.below(20) {
         0 => rng.between(40, 110),
         1..=4 => 1,
@@ -61,15 +88,11 @@ pub fn formula(rng: &mut Prng, names: &Names, kind: Option<Kind>, place: Place) 
     let mut writer = Writer {
         rng,
         names,
+        faults,
         out: Vec::new(),
     };
     writer.expression(kind, size, CHOICE);
-    let mut pieces = writer.out;
-    if bar_outside(&pieces) && !place.leaves_bars(rng) {
-        pieces.insert(0, b"(".to_vec());
-        pieces.push(b")".to_vec());
-    }
-    join_well(rng, &pieces)
+    writer.out
 }
 
 fn bar_outside(pieces: &[Vec<u8>]) -> bool {
@@ -87,6 +110,7 @@ fn bar_outside(pieces: &[Vec<u8>]) -> bool {
 struct Writer<'a> {
     rng: &'a mut Prng,
     names: &'a Names,
+    faults: Faults,
     out: Vec<Vec<u8>>,
 }
 
@@ -172,12 +196,32 @@ impl Writer<'_> {
         });
     }
 
+    /// Whether the next operand is to be refused.
+    fn strikes(&mut self, one_in: usize) -> bool {
+        one_in > 0 && self.rng.one_in(one_in)
+    }
+
     fn operand(&mut self, kind: Kind) {
-        // Now and then another kind, to see it refused.
-        let kind = match self.rng.below(120) {
-            0 => self.rng.pick(&KINDS),
-            _ => kind,
+        let kind = match self.strikes(self.faults.kind) {
+            true => self.rng.pick(&KINDS),
+            false => kind,
         };
+        if self.strikes(self.faults.missing) {
+            let name = self.rng.pick(&["g.None", "NOT.here", "_._"]);
+            return self.push(name);
+        }
+        if kind == Kind::Number && self.strikes(self.faults.value) {
+            let tokens: &[&str] = self.rng.pick(&[
+                &["-", "1"][..],
+                &["(", "5", "-", "7", ")"],
+                &["(", "1", "/", "0", ")"],
+                &["(", "2", "%", "0", ")"],
+                &["(", "1", "<<", "64", ")"],
+                &["(", "0", "AND", "1", "/", "0", ")"],
+            ]);
+            tokens.iter().for_each(|token| self.push(token));
+            return;
+        }
         if self.rng.one_in(3) {
             let name = self.names.pick(self.rng, kind);
             self.out.push(match name.contains(&b'.') {

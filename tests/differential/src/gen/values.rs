@@ -4,12 +4,13 @@ use super::expressions::{self, damage};
 use super::extremes::extreme;
 use super::formulas::{formula, Place, COMPARISONS, NUMERIC};
 use super::numbers::EDGES;
+use super::places;
 use super::settings::Names;
 use crate::prng::Prng;
 
 /// Any expression; most have a value.
 pub fn any(rng: &mut Prng, names: &Names, place: Place) -> Vec<u8> {
-    match rng.below(12) {
+    match rng.below(16) {
         0 | 1 => expressions::any(rng),
         2 => {
             let mut expr = formula(rng, names, None, place);
@@ -17,6 +18,7 @@ pub fn any(rng: &mut Prng, names: &Names, place: Place) -> Vec<u8> {
             expr
         }
         3 => extreme(rng, names, place),
+        4..=7 => places::any(rng, names),
         _ => formula(rng, names, None, place),
     }
 }

@@ -1,7 +1,7 @@
 //! Small things that the tests share.
 #![allow(dead_code)]
 
-use oracle::{evaluate, select, Value};
+use oracle::{evaluate, select, Refusal, Value};
 
 /// A record with its fields at the places document 01 gives them.
 pub fn record(name: &[u8], kind: u8, content: &[u8]) -> [u8; 128] {
@@ -32,9 +32,14 @@ pub fn table(records: &[[u8; 128]]) -> Vec<u8> {
     records.concat()
 }
 
+/// An answer whose refusal is its number alone.
+pub fn unplaced<T>(answer: Result<T, Refusal>) -> Result<T, u8> {
+    answer.map_err(|refusal| refusal.number)
+}
+
 /// The number and count of an expression, or its refusal.
 pub fn number_in(expr: &str, table: &[u8]) -> Result<(u64, u64), u8> {
-    evaluate(expr.as_bytes(), table).map(|outcome| match outcome.value {
+    unplaced(evaluate(expr.as_bytes(), table)).map(|outcome| match outcome.value {
         Value::Number(number) => (number, outcome.count),
         other => panic!("{expr}: a number was expected, not {other:?}"),
     })
@@ -50,12 +55,17 @@ pub fn value_of(expr: &str) -> Result<u64, u8> {
 }
 
 pub fn refusal_of(expr: &[u8]) -> Option<u8> {
-    evaluate(expr, &[]).err()
+    unplaced(evaluate(expr, &[])).err()
 }
 
-/// Marks and count of a file, or refusal number and line. Checks on the way
-/// that the marks are treated as they must be.
+/// Marks and count of a file, or refusal number and line.
 pub fn marks_in(file: &[u8], table: &[u8]) -> Result<(Vec<u8>, u64), (u8, usize)> {
+    selected(file, table).map_err(|(refusal, line)| (refusal.number, line))
+}
+
+/// Marks and count of a file, or refusal and line. Checks on the way that the
+/// marks are treated as they must be.
+pub fn selected(file: &[u8], table: &[u8]) -> Result<(Vec<u8>, u64), (Refusal, usize)> {
     let mut marks = vec![77; 4_096 + 3];
     match select(file, table, &mut marks) {
         Ok((lines, count)) => {

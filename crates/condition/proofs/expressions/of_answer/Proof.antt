@@ -19,12 +19,18 @@ of-number-requires c κs = search needs
 enum-told : tie.Need-enum-told
 enum-told c = search needs
 
+unplaced-requires : tie.Need-unplaced-requires
+unplaced-requires c κs = search needs
+
 enum-told-2 : tie.Need-enum-told-2
 enum-told-2 c = search needs
 
+unplaced-requires-2 : tie.Need-unplaced-requires-2
+unplaced-requires-2 c κs = search needs
+
 returns : tie.Need-returns
 unfolding ofAnswer
-returns c = λ m. rw (c .before .a .given .1)
+returns c = λ m. rw (c .before .before .a .given .1)
 
 returns-2 : tie.Need-returns-2
 unfolding ofAnswer
@@ -36,14 +42,14 @@ returns-2 c =
 returns-3 : tie.Need-returns-3
 unfolding ofAnswer
 returns-3 c =
-    let a2 = c .before .before .before .a2 in
-    λ m. rw (a2 .given .1, c .enum-told .given .1)
+    let a2 = c .before .before .before .before .a2 in
+    λ m. rw (a2 .given .1, c .before .enum-told .given .1, c .unplaced .ensures)
 
 returns-4 : tie.Need-returns-4
 unfolding ofAnswer
 returns-4 c =
-    let a2 = c .before .before .before .a2 in
-    λ m. rw (a2 .given .1, c .enum-told2 .given .1)
+    let a2 = c .before .before .before .before .a2 in
+    λ m. rw (a2 .given .1, c .before .enum-told2 .given .1, c .unplaced2 .ensures)
 
 pub of-answer-spec : {M : Type 1} → statement M
 of-answer-spec =
@@ -54,7 +60,9 @@ of-answer-spec =
     enum-known-v
     of-number-requires
     enum-told
+    unplaced-requires
     enum-told-2
+    unplaced-requires-2
     returns
     returns-2
     returns-3

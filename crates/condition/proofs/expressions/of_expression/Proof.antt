@@ -10,9 +10,12 @@ use Rattle.condition.proofs.expressions.of_expression.Tie as tie
 is-spaced-requires : tie.Need-is-spaced-requires
 is-spaced-requires c κs = search needs
 
+unplaced-requires : tie.Need-unplaced-requires
+unplaced-requires c κs = search needs
+
 returns : tie.Need-returns
 unfolding ofExpression
-returns c = rw (sym (c .before .is-spaced .ensures) ∙ not-true _ (c .if1 .taken))
+returns c = rw (sym (c .before .before .is-spaced .ensures) ∙ not-true _ (c .before .if1 .taken), c .unplaced .ensures)
 
 evaluate-in-requires : tie.Need-evaluate-in-requires
 evaluate-in-requires c κs = search needs
@@ -31,4 +34,4 @@ returns-2 c =
 pub of-expression-spec : {M : Type 1} → statement M
 of-expression-spec =
     tie.close
-    (tie.spec is-spaced-requires returns evaluate-in-requires of-answer-requires returns-2)
+    (tie.spec is-spaced-requires unplaced-requires returns evaluate-in-requires of-answer-requires returns-2)

@@ -11,9 +11,12 @@ use Rattle.condition.proofs.macros.of_macro.Tie as tie
 is-spaced-requires : tie.Need-is-spaced-requires
 is-spaced-requires c κs = search needs
 
+unplaced-requires : tie.Need-unplaced-requires
+unplaced-requires c κs = search needs
+
 returns : tie.Need-returns
 unfolding ofMacro
-returns c = rw (sym (c .before .is-spaced .ensures) ∙ not-true _ (c .if1 .taken))
+returns c = rw (sym (c .before .before .is-spaced .ensures) ∙ not-true _ (c .before .if1 .taken), c .unplaced .ensures)
 
 run-end-requires : tie.Need-run-end-requires
 run-end-requires c κs = search needs
@@ -56,6 +59,7 @@ of-macro-spec =
     tie.close
     (tie.spec
     is-spaced-requires
+    unplaced-requires
     returns
     run-end-requires
     sub-rest

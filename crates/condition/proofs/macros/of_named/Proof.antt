@@ -8,18 +8,28 @@ use borrow.Author.Needs.{needs}
 use Rattle.condition.proofs.macros.of_named.Statement.{statement}
 use Rattle.condition.proofs.macros.of_named.Tie as tie
 
+unplaced-requires : tie.Need-unplaced-requires
+unplaced-requires c κs = search needs
+
 returns : tie.Need-returns
 unfolding ofNamed
-returns c = rw (c .if1 .taken)
+returns c = rw (c .before .if1 .taken, c .unplaced .ensures)
 
 is-idle-requires : tie.Need-is-idle-requires
 is-idle-requires c κs = search needs
 
+unplaced-requires-2 : tie.Need-unplaced-requires-2
+unplaced-requires-2 c κs = search needs
+
 returns-2 : tie.Need-returns-2
 unfolding ofNamed
 returns-2 c =
-    let start = c .before .before .before .before .before .before .before in
-    rw (lt-ltb 0 (start .args .n .len) (omega arith), sym (c .before .is-idle .ensures) ∙ not-true _ (c .if2 .taken))
+    let start = c .before .before .before .before .before .before .before .before in
+    rw (
+      lt-ltb 0 (start .args .n .len) (omega arith),
+      sym (c .before .before .is-idle .ensures) ∙ not-true _ (c .before .if2 .taken),
+      c .unplaced2 .ensures,
+    )
 
 part-requires : tie.Need-part-requires
 part-requires c κs = search needs
@@ -48,8 +58,10 @@ pub of-named-spec : {M : Type 1} → statement M
 of-named-spec =
     tie.close
     (tie.spec
+    unplaced-requires
     returns
     is-idle-requires
+    unplaced-requires-2
     returns-2
     part-requires
     lookup-requires

@@ -9,73 +9,83 @@ use Rattle.evaluation.proofs.outcome.answer_tokens.Tie as tie
 abbrev memory : tie.Start → Memory
 memory s = over (s .args .expr .now) (s .args .table .now)
 
-is-refused-requires : tie.Need-is-refused-requires
-is-refused-requires c κs =
-    let start = c .before .before .before .before .before in
-    (start .pre .holding .few, start .pre .holding .codes)
+bar-at-requires : tie.Need-bar-at-requires
+bar-at-requires c κs = c .before .before .before .before .before .pre .holding
 
-has-missing-pcd-requires : tie.Need-has-missing-pcd-requires
-has-missing-pcd-requires c κs =
-    let start = c .before .before .before .before .before .before in
-    start .pre
+pcd-at-requires : tie.Need-pcd-at-requires
+pcd-at-requires c κs = c .before .before .before .before .before .before .pre
 
 parse-requires : tie.Need-parse-requires
-parse-requires c κs =
-    let start = c .before .before .before .before .before .before .before in
-    start .pre
+parse-requires c κs = c .before .before .before .before .before .before .before .pre
 
-enum-told : tie.Need-enum-told
-enum-told c = search needs
+enum-known-at : tie.Need-enum-known-at
+enum-known-at c = search needs
 
-refused-requires : tie.Need-refused-requires
-refused-requires c κs = search needs
+start-at-requires : tie.Need-start-at-requires
+start-at-requires c κs =
+    let start = c .before .before .before .before .before .before .before .before .before .before .before in
+    start .pre .holding
+
+refused-at-requires : tie.Need-refused-at-requires
+refused-at-requires c κs = search needs
 
 enum-known-a : tie.Need-enum-known-a
 enum-known-a c = search needs
 
-refused-requires-2 : tie.Need-refused-requires-2
-refused-requires-2 c κs = search needs
+start-at-requires-2 : tie.Need-start-at-requires-2
+start-at-requires-2 c κs =
+    let start = c .before .before .before .before .before .before .before .before .before .before .before .before .before .before in
+    start .pre .holding
+
+refused-at-requires-2 : tie.Need-refused-at-requires-2
+refused-at-requires-2 c κs = search needs
 
 returns : tie.Need-returns
 returns c =
-    let a = c .before .before .before .before .before .a in
-    let parse = c .before .before .before .before .before .before .before .parse in
-    let start = c .before .before .before .before .before .before .before .before .before .before .before .before .before .before .before in
+    let a = c .before .before .before .before .before .before .a in
+    let parse = c .before .before .before .before .before .before .before .before .parse in
+    let start = c .before .before .before .before .before .before .before .before .before .before .before .before .before .before .before .before in
+    let if1 = c .before .before .if1 in
+    let start-at2 = c .before .start-at2 in
     let parses = rw (a .given .1) at (parse .ensures) in
-    c .refused2 .ensures (memory start) ∙ rw (whole-rest parses (c .before .if1 .taken))
+    c .refused-at2 .ensures (memory start) ∙ rw (whole-rest parses (if1 .taken), start-at2 .ensures)
 
 check-then-answer-requires : tie.Need-check-then-answer-requires
 check-then-answer-requires c κs = search needs
 
 returns-2 : tie.Need-returns-2
 returns-2 c =
-    let parse = c .before .before .before .parse in
-    let start = c .before .before .before .before .before .before .before .before .before .before .before in
-    let fails = rw (c .before .enum-told .given .1) at (parse .ensures) in
-    c .refused .ensures (memory start) ∙ rw (whole-bad fails)
+    let at = c .before .before .before .at in
+    let parse = c .before .before .before .before .before .parse in
+    let start = c .before .before .before .before .before .before .before .before .before .before .before .before .before in
+    let start-at = c .before .start-at in
+    let fails = rw (at .given .1) at (parse .ensures) in
+    c .refused-at .ensures (memory start) ∙ rw (whole-bad fails, start-at .ensures)
 
 returns-3 : tie.Need-returns-3
 returns-3 c =
     let a = c .before .before .before .before .before .a in
     let parse = c .before .before .before .before .before .before .before .parse in
-    let has-missing-pcd = c .before .before .before .before .before .before .before .before .has-missing-pcd in
-    let is-refused = c .before .before .before .before .before .before .before .before .before .is-refused in
     let start = c .before .before .before .before .before .before .before .before .before .before .before .before .before .before .before in
+    let bar-at = c .before .before .before .before .before .before .before .before .before .bar-at in
+    let pcd-at = c .before .before .before .before .before .before .before .before .pcd-at in
+    let if1 = c .before .if1 in
     let parses = rw (a .given .1) at (parse .ensures) in
-    let all = c .before .if1 .left in
-    c .check-then-answer .ensures (memory start) ∙ rw (is-refused .ensures, has-missing-pcd .ensures, whole-made parses all)
+    c .check-then-answer .ensures (memory start) ∙ rw (bar-at .ensures, pcd-at .ensures, whole-made parses (if1 .left))
 
 pub answer-tokens-spec : {M : Type 1} → statement M
 answer-tokens-spec =
     tie.close
     (tie.spec
-    is-refused-requires
-    has-missing-pcd-requires
+    bar-at-requires
+    pcd-at-requires
     parse-requires
-    enum-told
-    refused-requires
+    enum-known-at
+    start-at-requires
+    refused-at-requires
     enum-known-a
-    refused-requires-2
+    start-at-requires-2
+    refused-at-requires-2
     returns
     check-then-answer-requires
     returns-2

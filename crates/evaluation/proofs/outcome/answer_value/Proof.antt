@@ -15,21 +15,17 @@ answer-text-requires c κs = search needs
 enum-known-value-3 : tie.Need-enum-known-value-3
 enum-known-value-3 c = search needs
 
-refused-requires : tie.Need-refused-requires
-refused-requires c κs = search needs
+refused-at-requires : tie.Need-refused-at-requires
+refused-at-requires c κs = search needs
 
 returns : tie.Need-returns
 returns c = λ m. rw (c .before .value .given .1)
 
 returns-2 : tie.Need-returns-2
-returns-2 c =
-    let value2 = c .before .before .value2 in
-    λ m. rw (value2 .given .1, c .answer-text .ensures m)
+returns-2 c = λ m. rw (c .before .before .value2 .given .1, c .answer-text .ensures m)
 
 returns-3 : tie.Need-returns-3
-returns-3 c =
-    let value3 = c .before .before .value3 in
-    λ m. rw (value3 .given .1) (c .refused .ensures m)
+returns-3 c = λ m. rw (c .before .before .before .value3 .given .1) (c .refused-at .ensures m)
 
 pub answer-value-spec : {M : Type 1} → statement M
 answer-value-spec =
@@ -39,7 +35,7 @@ answer-value-spec =
     enum-known-value-2
     answer-text-requires
     enum-known-value-3
-    refused-requires
+    refused-at-requires
     returns
     returns-2
     returns-3)

@@ -294,7 +294,7 @@ loop-again-3 c =
       entries = omega (arith, entry .before .before .loop-test .taken);
       room = omega (arith, inv .room);
       long = left .long ∙ inv .long;
-      rest = choice-on _ (denoteToken (token .result)) (found-choice here) left;
+      rest = choice-on _ (denoteToken (token .result)) (token .ensures) (found-choice here) left;
     }
 
 sub-binary : tie.Need-sub-binary Inv-loop μ-loop

@@ -6,8 +6,13 @@ use borrow.Author.Needs.{needs}
 use Rattle.groups.proofs.rules.opening.Statement.{statement}
 use Rattle.groups.proofs.rules.opening.Tie as tie
 
+unplaced-requires : tie.Need-unplaced-requires
+unplaced-requires c κs = search needs
+
 returns : tie.Need-returns
-returns c = let s = c .before .before .args .s in rw (le-leb MAX-GROUPS (s .depth) (c .if1 .taken))
+returns c =
+    let s = c .before .before .before .args .s in
+    rw (le-leb MAX-GROUPS (s .depth) (c .before .if1 .taken), c .unplaced .ensures)
 
 first-branch-requires : tie.Need-first-branch-requires
 first-branch-requires c κs = search needs
@@ -24,4 +29,4 @@ returns-3 c =
     rw (lt-leb MAX-GROUPS (s .depth) (omega (arith, few .if1 .left)), c .before .if2 .left, c .first-branch .ensures)
 
 pub opening-spec : {M : Type 1} → statement M
-opening-spec = tie.close (tie.spec returns first-branch-requires returns-2 returns-3)
+opening-spec = tie.close (tie.spec unplaced-requires returns first-branch-requires returns-2 returns-3)

@@ -5,6 +5,9 @@ use borrow.Author.Needs.{needs}
 use Rattle.groups.proofs.rules.plan.Statement.{statement}
 use Rattle.groups.proofs.rules.plan.Tie as tie
 
+unplaced-requires : tie.Need-unplaced-requires
+unplaced-requires c κs = search needs
+
 enum-told : tie.Need-enum-told
 enum-told c = search needs
 
@@ -35,8 +38,8 @@ enum-told-5 c = search needs
 returns : tie.Need-returns
 unfolding plan
 returns c =
-    let enum-told5 = c .before .before .before .enum-told5 in
-    rw (enum-told5 .given .1, c .if1 .taken)
+    let told = c .before .before .before in
+    rw (told .enum-told5 .given .1, c .if1 .taken, told .before .before .unplaced .ensures)
 
 next-branch-requires : tie.Need-next-branch-requires
 next-branch-requires c κs = search needs
@@ -47,8 +50,8 @@ enum-told-6 c = search needs
 returns-2 : tie.Need-returns-2
 unfolding plan
 returns-2 c =
-    let enum-told6 = c .before .before .before .enum-told6 in
-    rw (enum-told6 .given .1, c .if3 .taken)
+    let told = c .before .before .before in
+    rw (told .enum-told6 .given .1, c .if3 .taken, told .before .before .unplaced .ensures)
 
 next-branch-requires-2 : tie.Need-next-branch-requires-2
 next-branch-requires-2 c κs = search needs
@@ -59,11 +62,14 @@ enum-told-7 c = search needs
 returns-3 : tie.Need-returns-3
 unfolding plan
 returns-3 c =
-    let enum-told7 = c .before .before .enum-told7 in
-    rw (enum-told7 .given .1, c .if5 .taken)
+    let told = c .before .before in
+    rw (told .enum-told7 .given .1, c .if5 .taken, told .before .before .unplaced .ensures)
 
 enum-told-8 : tie.Need-enum-told-8
 enum-told-8 c = search needs
+
+unplaced-requires-2 : tie.Need-unplaced-requires-2
+unplaced-requires-2 c κs = search needs
 
 returns-4 : tie.Need-returns-4
 unfolding plan
@@ -122,12 +128,13 @@ returns-13 c =
 
 returns-14 : tie.Need-returns-14
 unfolding plan
-returns-14 c = rw (c .enum-told8 .given .1)
+returns-14 c = rw (c .before .enum-told8 .given .1, c .unplaced2 .ensures)
 
 pub plan-spec : {M : Type 1} → statement M
 plan-spec =
     tie.close
     (tie.spec
+    unplaced-requires
     enum-told
     plain-mark-requires
     enum-told-2
@@ -145,6 +152,7 @@ plan-spec =
     enum-told-7
     returns-3
     enum-told-8
+    unplaced-requires-2
     returns-4
     returns-5
     returns-6

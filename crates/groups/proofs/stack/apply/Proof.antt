@@ -5,6 +5,9 @@ use borrow.Author.Needs.{needs}
 use Rattle.groups.proofs.stack.apply.Statement.{statement}
 use Rattle.groups.proofs.stack.apply.Tie as tie
 
+unplaced-requires : tie.Need-unplaced-requires
+unplaced-requires c κs = search needs
+
 add-y : tie.Need-add-y
 add-y c = search needs
 
@@ -32,7 +35,7 @@ mul-y-2 c = search needs
 element-write-y : tie.Need-element-write-y
 element-write-y c =
     let r2 = c .before .before .before .before .r2 in
-    let start = c .before .before .before .before .before .before .before in
+    let start = c .before .before .before .before .before .before .before .before in
     rw (r2 .given .1) at (start .pre .1)
 
 add-y-3 : tie.Need-add-y-3
@@ -55,7 +58,7 @@ enum-known-r-4 c = search needs
 
 sub-y : tie.Need-sub-y
 sub-y c =
-    let start = c .before .before .before .before in
+    let start = c .before .before .before .before .before in
     rw (c .before .r4 .given .1) at (start .pre .1)
 
 enum-known-r-5 : tie.Need-enum-known-r-5
@@ -66,28 +69,33 @@ refused-requires c κs = search needs
 
 returns : tie.Need-returns
 returns c =
-    let start = c .before .before .before .before in
-    rw (c .before .r .given .1) (refl, refl, stayed (start .args .x) (start .args .count) (start .pre .0), refl)
+    let none = c .before .before .before .before in
+    let start = none .before in
+    rw (c .before .r .given .1) (refl, refl, stayed (start .args .x) (start .args .count) (start .pre .0), none .unplaced .ensures)
 
 returns-2 : tie.Need-returns-2
 returns-2 c =
     let r2 = c .before .before .before .before .r2 in
-    let start = c .before .before .before .before .before .before .before in
+    let none = c .before .before .before .before .before .before .before in
+    let start = none .before in
     let a = start .args in
+    let sizes = start .good .1 .1 .1 .0 in
     let room = rw (r2 .given .1) at (start .pre .1) in
-    rw (r2 .given .1, c .before .digit .ensures .0) (refl, refl, pushed (a .x) (a .count) _ (a .n .0) room (search needs), refl)
+    rw (r2 .given .1, c .before .digit .ensures .0) (refl, refl, pushed (a .x) (a .count) _ (a .n .0) room (search needs), none .unplaced .ensures)
 
 returns-3 : tie.Need-returns-3
 returns-3 c =
     let r3 = c .before .before .before .r3 in
-    let start = c .before .before .before .before .before .before in
-    rw (r3 .given .1, c .digit2 .ensures .0) (refl, refl, replaced (start .args .x) (start .args .count) _ (start .pre .0), refl)
+    let none = c .before .before .before .before .before .before in
+    let start = none .before in
+    rw (r3 .given .1, c .digit2 .ensures .0) (refl, refl, replaced (start .args .x) (start .args .count) _ (start .pre .0), none .unplaced .ensures)
 
 returns-4 : tie.Need-returns-4
 returns-4 c =
     let r4 = c .before .before .r4 in
-    let start = c .before .before .before .before .before in
-    rw (r4 .given .1) (refl, refl, popped (start .args .x) (start .args .count) (start .pre .0), refl)
+    let none = c .before .before .before .before .before in
+    let start = none .before in
+    rw (r4 .given .1) (refl, refl, popped (start .args .x) (start .args .count) (start .pre .0), none .unplaced .ensures)
 
 returns-5 : tie.Need-returns-5
 returns-5 c =
@@ -98,6 +106,7 @@ pub apply-spec : {M : Type 1} → statement M
 apply-spec =
     tie.close
     (tie.spec
+    unplaced-requires
     add-y
     enum-known-r
     enum-known-r-2

@@ -21,8 +21,8 @@ show-value-requires c κs = search needs
 
 returns : tie.Need-returns
 returns c =
-    let r = c .before .before .before .r in
-    let evaluate = c .before .before .before .before .before .evaluate in
+    let r = c .before .before .before .before .r in
+    let evaluate = c .before .before .before .before .before .before .evaluate in
     let a = rw (r .given .1) at (evaluate .ensures) in
     record { refused-with = rw (← a); written = rw (← a) (c .show-number .ensures) }
 

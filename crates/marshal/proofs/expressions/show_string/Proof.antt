@@ -1,4 +1,4 @@
--- Six stores, one after the other.
+-- Seven stores, one after the other.
 use borrow.Author.Needs.{needs}
 use Rattle.marshal.proofs.expressions.show_string.Statement.{statement}
 use Rattle.marshal.proofs.expressions.show_string.Tie as tie
@@ -24,6 +24,9 @@ element-write-out-5 c = search needs
 element-write-out-6 : tie.Need-element-write-out-6
 element-write-out-6 c = search needs
 
+element-write-out-7 : tie.Need-element-write-out-7
+element-write-out-7 c = search needs
+
 returns : tie.Need-returns
 returns c = rw (c .number-of .ensures)
 
@@ -38,4 +41,5 @@ show-string-spec =
     element-write-out-4
     element-write-out-5
     element-write-out-6
+    element-write-out-7
     returns)

@@ -10,14 +10,14 @@ select-requires c κs = search needs
 enum-known-lines : tie.Need-enum-known-lines
 enum-known-lines c = search needs
 
-store-requires : tie.Need-store-requires
-store-requires c κs = search needs
+show-requires : tie.Need-show-requires
+show-requires c κs = search needs
 
 enum-known-r : tie.Need-enum-known-r
 enum-known-r c = search needs
 
-store-requires-2 : tie.Need-store-requires-2
-store-requires-2 c κs = search needs
+show-requires-2 : tie.Need-show-requires-2
+show-requires-2 c κs = search needs
 
 same-length : tie.Need-same-length
 same-length c = search needs
@@ -28,18 +28,18 @@ returns c =
     let select = c .before .before .before .before .before .before .before .select in
     let w = select .ensures in
     let a = sym (lines .given .1) ∙ w .answer in
-    record { refused-with = rw (← a); shown = rw (← a) (c .store .ensures); marks-are = w .marks-are }
+    record { refused-with = rw (← a); shown = rw (← a) (c .show .ensures); marks-are = w .marks-are }
 
 same-length-2 : tie.Need-same-length-2
 same-length-2 c = search needs
 
 returns-2 : tie.Need-returns-2
 returns-2 c =
-    let r = c .before .before .before .before .r in
-    let select = c .before .before .before .before .before .before .before .before .select in
+    let r = c .before .before .before .before .before .r in
+    let select = c .before .before .before .before .before .before .before .before .before .select in
     let w = select .ensures in
     let a = sym (r .given .1) ∙ w .answer in
-    record { refused-with = rw (← a); shown = rw (← a) (c .store2 .ensures); marks-are = w .marks-are }
+    record { refused-with = rw (← a); shown = rw (← a) (c .show2 .ensures); marks-are = w .marks-are }
 
 pub mark-spec : {M : Type 1} → statement M
 mark-spec =
@@ -47,9 +47,9 @@ mark-spec =
     (tie.spec
     select-requires
     enum-known-lines
-    store-requires
+    show-requires
     enum-known-r
-    store-requires-2
+    show-requires-2
     same-length
     returns
     same-length-2

@@ -1,4 +1,4 @@
--- The arrays have room for 200 tokens; the scan stored them, and the two numbers are its answer.
+-- The arrays have room for 200 tokens; the scan stored them, and the three numbers are its answer.
 use native.Mathlib.Omega.{arith}
 use borrow.Author.Needs.{needs}
 use Rattle.token.proofs.Reading.{most-tokens}
@@ -15,19 +15,23 @@ tokens-requires c κs =
 number-of-requires : tie.Need-number-of-requires
 number-of-requires c κs = search needs
 
-cast-out : tie.Need-cast-out
-cast-out c = search needs
+cast-number : tie.Need-cast-number
+cast-number c = search needs
 
-element-write-out : tie.Need-element-write-out
-element-write-out c = search needs
+offset-of-requires : tie.Need-offset-of-requires
+offset-of-requires c κs = search needs
 
-element-write-out-2 : tie.Need-element-write-out-2
-element-write-out-2 c = search needs
+store-requires : tie.Need-store-requires
+store-requires c κs = search needs
 
 returns : tie.Need-returns
 returns c =
-    let scan = c .before .before .tokens .ensures in
-    record { head = rw (c .number-of .ensures, scan .ending, scan .count); tokens = scan .tokens }
+    let offset = c .before .before in
+    let scan = offset .before .before .before .tokens .ensures in
+    record {
+      head = rw (← scan .ending, ← offset .before .number-of .ensures, ← offset .offset-of .ensures, ← scan .count) (c .store .ensures);
+      tokens = scan .tokens;
+    }
 
 pub list-spec : {M : Type 1} → statement M
 list-spec =
@@ -35,7 +39,7 @@ list-spec =
     (tie.spec
     tokens-requires
     number-of-requires
-    cast-out
-    element-write-out
-    element-write-out-2
+    cast-number
+    offset-of-requires
+    store-requires
     returns)

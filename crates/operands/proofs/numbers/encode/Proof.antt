@@ -1,4 +1,4 @@
--- Each number encodes its part.
+-- The numbers of each part encode it.
 use borrow.Author.Needs.{needs}
 use Rattle.operands.proofs.numbers.encode.Statement.{statement}
 use Rattle.operands.proofs.numbers.encode.Tie as tie

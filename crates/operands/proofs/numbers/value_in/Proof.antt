@@ -1,8 +1,11 @@
 -- The shape decides.
-use borrow.Author.Tests.{ne-eqb}
+use borrow.Author.Tests.{eq-eqb, ne-eqb}
 use borrow.Author.Needs.{needs}
 use Rattle.operands.proofs.numbers.value_in.Statement.{statement}
 use Rattle.operands.proofs.numbers.value_in.Tie as tie
+
+returns : tie.Need-returns
+returns c = rw (eq-eqb _ _ (c .if1 .taken))
 
 home-in-requires : tie.Need-home-in-requires
 home-in-requires c κs = search needs
@@ -10,20 +13,17 @@ home-in-requires c κs = search needs
 fault-in-requires : tie.Need-fault-in-requires
 fault-in-requires c κs = search needs
 
-returns : tie.Need-returns
-returns c = rw (c .match .keys1)
-
 returns-2 : tie.Need-returns-2
-returns-2 c = rw (c .before .home-in .ensures, c .match .keys2)
+returns-2 c = rw (c .before .home-in .ensures, c .match .keys1)
 
 returns-3 : tie.Need-returns-3
-returns-3 c = rw (c .before .home-in .ensures, c .match .keys3)
+returns-3 c = rw (c .before .home-in .ensures, c .match .keys2)
 
 returns-4 : tie.Need-returns-4
 returns-4 c =
     let rest = c .before .match .rest in
-    rw (c .fault-in .ensures, ne-eqb _ _ (rest .0 .0 .1), ne-eqb _ _ (rest .0 .1), ne-eqb _ _ (rest .1))
+    rw (c .fault-in .ensures, ne-eqb _ _ (c .before .before .before .if1 .left), ne-eqb _ _ (rest .0 .1), ne-eqb _ _ (rest .1))
 
 pub value-in-spec : {M : Type 1} → statement M
 value-in-spec =
-    tie.close (tie.spec home-in-requires fault-in-requires returns returns-2 returns-3 returns-4)
+    tie.close (tie.spec returns home-in-requires fault-in-requires returns-2 returns-3 returns-4)

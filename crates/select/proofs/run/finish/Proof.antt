@@ -20,15 +20,18 @@ element-copy-out-line c = search needs
 cast-line : tie.Need-cast-line
 cast-line c = search needs
 
+unplaced-requires : tie.Need-unplaced-requires
+unplaced-requires c κs = search needs
+
 refused-requires : tie.Need-refused-requires
 refused-requires c κs = search needs
 
 returns-2 : tie.Need-returns-2
 returns-2 c =
-    let if1 = c .before .before .if1 in
-    let a = c .before .before .before .args in
+    let if1 = c .before .before .before .if1 in
+    let a = c .before .before .before .before .args in
     let x = a .t1 in
-    c .refused .ensures ∙ top-line (a .n .0) (x .count) (x .states) (x .lines) (x .depth) (if1 .left)
+    c .refused .ensures ∙ rw (c .before .unplaced .ensures) (top-line (a .n .0) (x .count) (x .states) (x .lines) (x .depth) (if1 .left))
 
 pub finish-spec : {M : Type 1} → statement M
 finish-spec =
@@ -39,5 +42,6 @@ finish-spec =
     mul-line
     element-copy-out-line
     cast-line
+    unplaced-requires
     refused-requires
     returns-2)

@@ -96,18 +96,18 @@ refused-requires c κs = search needs
 
 same-length : tie.Need-same-length Inv-loop μ-loop
 same-length c =
-    let loop = c .before .before .before .before .before .before .before .before .before .before .before .before in
+    let loop = c .before .before .before .before .before .before .before .before .before .before .before .before .before in
     loop .loop .inv .1
 
 returns : tie.Need-returns Inv-loop μ-loop
 returns c =
-    let stepped = c .before .before in
+    let stepped = c .before .before .before in
     let cut = stepped .before .before .before .before .before .before .before in
     let loop = cut .before .before .before in
     let u = loop .loop .inv .0 in
     let meets = stepped .step .ensures in
     refused-run _ _ _ _ (loop .loop .marks) (c .refused .result) _ _
-    (stops u (cut .next .ensures) (stepped .step .result) meets (not-true _ (c .before .if3 .taken)))
+    (stops u (cut .next .ensures) (stepped .step .result) meets (not-true _ (c .before .before .if3 .taken)))
     (c .refused .ensures)
 
 slice-write-marks-2 : tie.Need-slice-write-marks-2 Inv-loop μ-loop

@@ -1,4 +1,5 @@
 -- A refusal before any line, an accepted run, or a refused run.
+use mathlib.Core.Path.{_∙_}
 use Rattle.settings.proofs.Ordered.{in-order}
 use Rattle.select.proofs.SelectCorrect.{refused-before, accepted-run, refused-run}
 use borrow.Author.Needs.{needs}
@@ -11,6 +12,9 @@ check-limits-requires c κs = search needs
 fill-requires : tie.Need-fill-requires
 fill-requires c κs = search needs
 
+unplaced-requires : tie.Need-unplaced-requires
+unplaced-requires c κs = search needs
+
 refused-requires : tie.Need-refused-requires
 refused-requires c κs = search needs
 
@@ -19,12 +23,12 @@ same-length c = search needs
 
 returns : tie.Need-returns
 returns c =
-    let fill = c .before .before .before .fill in
-    let if1 = c .before .before .before .before .before .if1 in
-    let check-limits = c .before .before .before .before .before .before .check-limits in
-    let start = c .before .before .before .before .before .before .before .before .before .before .args in
+    let fill = c .before .before .before .before .fill in
+    let if1 = c .before .before .before .before .before .before .if1 in
+    let check-limits = c .before .before .before .before .before .before .before .check-limits in
+    let start = c .before .before .before .before .before .before .before .before .before .before .before .args in
     refused-before (start .file .now) (start .table .now) (start .dialect) (start .marks .now) (c .refused .result) (check-limits .result)
-    (check-limits .ensures (start .dialect) .refuses (if1 .taken)) (c .refused .ensures) (fill .last .0) (fill .ensures)
+    (check-limits .ensures (start .dialect) .refuses (if1 .taken)) (c .refused .ensures ∙ rw (c .before .unplaced .ensures)) (fill .last .0) (fill .ensures)
 
 run-requires : tie.Need-run-requires
 run-requires c κs =
@@ -76,6 +80,7 @@ select-spec =
     (tie.spec
     check-limits-requires
     fill-requires
+    unplaced-requires
     refused-requires
     same-length
     returns

@@ -1,9 +1,11 @@
 -- The length decides, then the plan of the directive.
 use native.Mathlib.Omega.{arith}
 use mathlib.Core.Path.{_≡_, ap, _∙_}
-use Rattle.condition.specs.Conditions.{evaluate, countOf}
+use lib.ListN.{length, length-drop}
+use Rattle.line.specs.Directives.{directiveOf, textStart}
+use Rattle.condition.specs.Conditions.{countOf, offsetOf, conditionOf}
 use Rattle.condition.proofs.Counts.{count-small}
-use Rattle.line.specs.Directives.{directiveOf, textOf}
+use Rattle.condition.proofs.PlaceWithin.{within-text, same-count}
 use Rattle.groups.specs.Stack.{denoteSelection}
 use Rattle.groups.specs.declared.Plan.the-variants.{Read}
 use Rattle.select.proofs.Steps.{other-read, long-step, planned-step, unread-suits, read-suits, line-planned}
@@ -11,13 +13,18 @@ use borrow.Author.Needs.{needs}
 use Rattle.select.proofs.step.step.Statement.{statement}
 use Rattle.select.proofs.step.step.Tie as tie
 
+unplaced-requires : tie.Need-unplaced-requires
+unplaced-requires c κs = search needs
+
 refused-requires : tie.Need-refused-requires
 refused-requires c κs = search needs
 
 returns : tie.Need-returns
 returns c =
-    let a = c .before .before .before .before .args in
-    rw (long-step (a .table .now) (a .dialect) (a .n .0) (denoteSelection (a .x)) (a .line .now) (c .before .if1 .taken)) (c .refused .ensures)
+    let a = c .before .before .before .before .before .args in
+    rw
+    (long-step (a .table .now) (a .dialect) (a .n .0) (denoteSelection (a .x)) (a .line .now) (c .before .before .if1 .taken), ← c .before .unplaced .ensures)
+    (c .refused .ensures)
 
 innermost-requires : tie.Need-innermost-requires
 innermost-requires c κs = search needs
@@ -52,6 +59,23 @@ text-requires c κs =
 evaluate-requires : tie.Need-evaluate-requires
 evaluate-requires c κs = search needs
 
+in-line-requires : tie.Need-in-line-requires
+in-line-requires c κs =
+    let texts = c .before in
+    let told = texts .before .before in
+    let plans = told .before .before in
+    let asks = plans .before in
+    let short = asks .before in
+    let start = short .before .before .before in
+    let a = start .args in
+    let l = a .line .now in
+    let head = start .pre .4 in
+    let planned =
+    line-planned (a .x) (a .head .directive) _ (asks .innermost .ensures) _ (plans .plan .ensures) l Read (head .directive) (told .enum-told .given .1) in
+    let handed = texts .text .ensures (head .starts (other-read _ _ planned)) in
+    let near = within-text (a .table .now) (a .head .directive) (texts .text .result .now) (a .dialect) in
+    omega (arith, near, ap offsetOf (c .evaluate .ensures), ap length (handed .bytes), length-drop (textStart l) l, short .if1 .left, head .within)
+
 conclude-requires : tie.Need-conclude-requires
 conclude-requires c κs = search needs
 
@@ -60,19 +84,21 @@ count-of-requires c κs = search needs
 
 apply-requires-2 : tie.Need-apply-requires-2
 apply-requires-2 c κs =
-    let says = c .before .before in
+    let places = c .before .before in
+    let says = places .before in
     let texts = says .before in
     let told = texts .before .before in
     let plans = told .before .before in
     let asks = plans .before in
     let start = asks .before .before .before .before in
     let a = start .args in
-    let small = count-small (a .table .now) (a .head .directive) (texts .text .result .now) (a .dialect) in (
+    let small = count-small (a .table .now) (a .head .directive) (texts .text .result .now) (a .dialect) in
+    let count = ap countOf (places .in-line .ensures) ∙ same-count (a .head .text .0) (says .evaluate .result) in (
       start .pre .2,
-      read-suits (a .x) (a .head .directive) _ (asks .innermost .ensures) _ (plans .plan .ensures) _ (says .evaluate .result) (told .enum-told .given .1)
+      read-suits (a .x) (a .head .directive) _ (asks .innermost .ensures) _ (plans .plan .ensures) _ (places .in-line .result) (told .enum-told .given .1)
           (c .before .conclude .ensures),
       start .pre .1,
-      omega (arith, c .count-of .ensures, ap countOf (says .evaluate .ensures), small, start .pre .3),
+      omega (arith, c .count-of .ensures, count, ap countOf (says .evaluate .ensures), small, start .pre .3),
     )
 
 returns-2 : tie.Need-returns-2
@@ -92,7 +118,8 @@ returns-3 : tie.Need-returns-3
 returns-3 c =
     let counts = c .before in
     let concludes = counts .before in
-    let says = concludes .before in
+    let places = concludes .before in
+    let says = places .before in
     let texts = says .before in
     let told = texts .before .before in
     let plans = told .before .before in
@@ -104,9 +131,10 @@ returns-3 c =
     let head = start .pre .4 in
     let planned =
     line-planned (a .x) (a .head .directive) _ (asks .innermost .ensures) _ (plans .plan .ensures) l Read (head .directive) (told .enum-told .given .1) in
-    let handed = texts .text .ensures (head .starts (other-read _ _ planned)) in
-    let said : says .evaluate .result ≡ evaluate (a .table .now) (directiveOf l) (textOf l) (a .dialect) =
-    says .evaluate .ensures ∙ rw (head .directive, handed .bytes) in
+    let at = head .starts (other-read _ _ planned) in
+    let handed = texts .text .ensures at in
+    let said : places .in-line .result ≡ conditionOf (a .table .now) (directiveOf l) l (a .dialect) =
+    places .in-line .ensures ∙ rw (says .evaluate .ensures, at, head .directive, handed .bytes) in
     rw (
       planned-step (a .table .now) (a .dialect) (a .n .0) (denoteSelection (a .x)) l Read (short .if1 .left) planned,
       ← said,
@@ -121,6 +149,7 @@ pub step-spec : {M : Type 1} → statement M
 step-spec =
     tie.close
     (tie.spec
+    unplaced-requires
     refused-requires
     returns
     innermost-requires
@@ -130,6 +159,7 @@ step-spec =
     enum-told
     text-requires
     evaluate-requires
+    in-line-requires
     conclude-requires
     count-of-requires
     apply-requires-2

@@ -16,12 +16,18 @@ of-text-requires-2 c κs = search needs
 suits-requires : tie.Need-suits-requires
 suits-requires c κs = search needs
 
+unsuited-requires : tie.Need-unsuited-requires
+unsuited-requires c κs = search needs
+
 returns : tie.Need-returns
 returns c =
-    let left = c .before .before .before .of-text in
-    let right = c .before .before .of-text2 in
-    let suits = c .before .suits in
-    rw (← left .ensures, ← right .ensures, ← suits .ensures, not-true (suits .result) (c .if1 .taken))
+    let start = c .before .before .before .before .before .before .before in
+    let of-text = c .before .before .before .before .of-text in
+    let of-text2 = c .before .before .before .of-text2 in
+    let suits = c .before .before .suits in
+    let if1 = c .before .if1 in
+    let m = over (start .args .expr .now) (start .args .table .now) in
+    rw (← of-text .ensures, ← of-text2 .ensures, ← suits .ensures, not-true (suits .result) (if1 .taken)) (c .unsuited .ensures m)
 
 bytes-requires : tie.Need-bytes-requires
 bytes-requires c κs = search needs
@@ -37,19 +43,19 @@ comparison-requires c κs = search needs
 
 returns-2 : tie.Need-returns-2
 returns-2 c =
-    let if1 = c .before .before .before .before in
-    let kinds = if1 .before in
-    let right = kinds .before in
-    let left = right .before in
-    let s = left .before .before .before .args in
-    let m = over (s .expr .now) (s .table .now) in
-    let suits = kinds .suits in
     let bytes = c .before .before .before .bytes in
     let bytes2 = c .before .before .bytes2 in
+    let of-text = c .before .before .before .before .before .before .before .of-text in
+    let of-text2 = c .before .before .before .before .before .before .of-text2 in
+    let suits = c .before .before .before .before .before .suits in
+    let if1 = c .before .before .before .before .if1 in
+    let compare = c .before .compare in
+    let s = c .before .before .before .before .before .before .before .before .before .before .args in
+    let m = over (s .expr .now) (s .table .now) in
     let first = part-bytes (s .expr) (s .table) (s .p) (bytes .result) (bytes .ensures) in
     let second = part-bytes (s .expr) (s .table) (s .q) (bytes2 .result) (bytes2 .ensures) in
-    rw (← left .of-text .ensures, ← right .of-text2 .ensures, ← suits .ensures, not-false (suits .result) (if1 .if1 .left))
-    (c .comparison .ensures m ∙ rw (c .before .compare .ensures, first, second))
+    rw (← of-text .ensures, ← of-text2 .ensures, ← suits .ensures, not-false (suits .result) (if1 .left))
+    (c .comparison .ensures m ∙ rw (compare .ensures, first, second))
 
 pub both-texts-spec : {M : Type 1} → statement M
 both-texts-spec =
@@ -58,6 +64,7 @@ both-texts-spec =
     of-text-requires
     of-text-requires-2
     suits-requires
+    unsuited-requires
     returns
     bytes-requires
     bytes-requires-2

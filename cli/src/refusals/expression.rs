@@ -1,0 +1,53 @@
+//! Refusals of expressions.
+
+use std::ops::RangeInclusive;
+
+use super::brief::MAX_COLUMNS;
+use super::columns::columns;
+use super::message::Message;
+use super::values::bare;
+use super::{bad_token, grammar, kinds, names, results};
+use crate::library::Refusal;
+use crate::terminal::{escaped, Error};
+
+/// The name that stands for an expression of the command line: no file has it by accident.
+pub const NAME: &[u8] = b"<expression>";
+
+/// The refusals that have a place.
+pub const PLACED: RangeInclusive<u8> = 3..=12;
+
+/// The refusal of an expression by itself.
+pub fn of_expression(expression: &[u8], table: &[u8], refusal: &Refusal) -> Error {
+    let Refusal { number, offset, .. } = *refusal;
+    let message = Message {
+        name: NAME,
+        line: 1,
+        number,
+        place: PLACED.contains(&number).then_some((expression, offset)),
+        hint: hint(expression, table, number, offset),
+    };
+    message.error()
+}
+
+/// What helps with the refusal of an expression, by itself or in a directive. The offset is counted from its start.
+pub fn hint(expression: &[u8], table: &[u8], number: u8, offset: usize) -> Option<String> {
+    match number {
+        3 => bad_token::no_token(expression.get(offset..)?),
+        7 => grammar::missing(expression, offset),
+        8 => Some(bar(expression)),
+        9 => names::missing_pcd(expression, offset),
+        10 => kinds::wrong_kinds(expression, table, offset),
+        11 => results::out_of_range(expression, table, offset),
+        12 => results::zero_divisor(expression, table, offset),
+        _ => None,
+    }
+}
+
+/// Where the parentheses go that a bar needs.
+fn bar(expression: &[u8]) -> String {
+    let whole = escaped(bare(expression));
+    match columns(&whole) {
+        ..=MAX_COLUMNS => format!("put parentheses round the expression: `({whole})`"),
+        _ => "put parentheses round the expression".into(),
+    }
+}

@@ -1,0 +1,27 @@
+//! Refusals of data fields.
+
+use super::expression::{of_expression, NAME};
+use super::message::Message;
+use super::values::described;
+use crate::library::Refusal;
+use crate::terminal::{escaped, Error};
+
+/// The first refusal of the field itself; those below it are of the expression.
+const FIRST_OF_FIELD: u8 = 23;
+
+/// The refusal of the field of an expression, for a datum type and what that takes.
+pub fn of_field(expression: &[u8], table: &[u8], datum: (&[u8], &str), refusal: &Refusal) -> Error {
+    if refusal.number < FIRST_OF_FIELD {
+        return of_expression(expression, table, refusal);
+    }
+    let value = described(expression, table);
+    let (datum, taken) = (escaped(datum.0), datum.1);
+    let message = Message {
+        name: NAME,
+        line: 1,
+        number: refusal.number,
+        place: None,
+        hint: value.map(|value| format!("the value is {value}, and {datum} takes {taken}")),
+    };
+    message.error()
+}

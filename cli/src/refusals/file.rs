@@ -1,0 +1,67 @@
+//! Refusals of description files.
+
+use super::directive::{directive, first_byte, taken_by, unknown_word};
+use super::expression::{self, PLACED};
+use super::groups;
+use super::message::Message;
+use super::values;
+use crate::library::Refusal;
+use crate::terminal::{lines, without_end, Error};
+
+/// The refusal of a file. One of a line that has no place of its own is shown at the line's first byte that is no blank, where its
+/// directive starts.
+pub fn of_file(name: &[u8], file: &[u8], table: &[u8], refusal: &Refusal) -> Error {
+    let Refusal {
+        number,
+        line,
+        offset,
+    } = *refusal;
+    let lines: Vec<&[u8]> = lines(file).map(without_end).collect();
+    let text = line.checked_sub(1).and_then(|before| lines.get(before));
+    let place = text.map(|text| match PLACED.contains(&number) {
+        true => (*text, offset),
+        false => (*text, first_byte(text)),
+    });
+    let message = Message {
+        name,
+        line,
+        number,
+        place,
+        hint: place.and_then(|(_, offset)| hint(&lines, table, line, number, offset)),
+    };
+    message.error()
+}
+
+/// What helps with the refusal of a line.
+fn hint(lines: &[&[u8]], table: &[u8], line: usize, number: u8, offset: usize) -> Option<String> {
+    let (before, text) = (&lines[..line - 1], lines[line - 1]);
+    match number {
+        17 => Some(format!("it has {} bytes without its end", text.len())),
+        19 => Some(groups::stray(before)),
+        20 => Some(groups::too_many(before)),
+        21 => Some(groups::unclosed(lines)),
+        _ => {
+            let found = directive(text)?;
+            let argument = text.get(found.text..)?;
+            match number {
+                13 => condition(argument, table),
+                18 => Some(unknown_word(found.word)),
+                22 => taken_by(found.word),
+                _ => {
+                    let offset = offset.checked_sub(found.text)?;
+                    expression::hint(argument, table, number, offset)
+                }
+            }
+        }
+    }
+}
+
+/// The value of a condition that is neither 0 nor 1, and what to compare it with.
+fn condition(argument: &[u8], table: &[u8]) -> Option<String> {
+    let value = values::described(argument, table)?;
+    let comparison = match values::number(argument, table) {
+        Some(_) => "a comparison, as `(..) != 0`,",
+        None => "a comparison with a string",
+    };
+    Some(format!("the value is {value}; {comparison} gives 0 or 1"))
+}

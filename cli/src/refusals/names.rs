@@ -1,0 +1,43 @@
+//! Macros and PCDs that are not set.
+
+use super::brief::brief;
+use crate::library::{self, token, Token};
+
+/// What is said of operands that are macros which are not set: a message goes on with it.
+pub fn unset(operands: &[&[u8]], table: &[u8]) -> String {
+    let unset = operands
+        .iter()
+        .filter_map(|operand| unset_macro(operand, table));
+    unset
+        .map(|name| format!("; {name} is not set, so it is the number 0"))
+        .collect()
+}
+
+/// The macro that an operand is, parentheses left out, if the table does not have it.
+fn unset_macro(operand: &[u8], table: &[u8]) -> Option<String> {
+    let mut tokens = library::tokens(operand).read;
+    tokens.retain(|token| !matches!(token.code, token::OPEN | token::CLOSE));
+    let [Token {
+        code: token::MACRO,
+        start,
+        len,
+        ..
+    }] = tokens.as_slice()
+    else {
+        return None;
+    };
+    let text = &operand[*start..][..*len];
+    let name = text.strip_prefix(b"$(")?.strip_suffix(b")")?;
+    let is_unset = library::lookup(table, name).is_none();
+    is_unset.then(|| brief(text))
+}
+
+/// The PCD at an offset, which the table does not have (9).
+pub fn missing_pcd(expression: &[u8], offset: usize) -> Option<String> {
+    let tokens = library::tokens(expression).read;
+    let found = tokens.iter().find(|token| token.start == offset)?;
+    let name = brief(expression.get(found.start..found.start + found.len)?);
+    Some(format!(
+        "{name} is not set; set it, as with -D {name}=VALUE"
+    ))
+}

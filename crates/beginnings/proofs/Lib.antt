@@ -1,0 +1,5 @@
+pub mod Trace
+pub mod Local
+pub mod Viable
+pub mod FirstBad
+pub mod Examples

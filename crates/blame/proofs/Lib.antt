@@ -1,0 +1,5 @@
+pub mod Carried
+pub mod Passing
+pub mod InOrder
+pub mod FirstBlamed
+pub mod FirstFault

@@ -1,0 +1,17 @@
+-- The test decides.
+use borrow.Author.Tests.{lt-ltb, le-ltb}
+use borrow.Author.Needs.{needs}
+use Rattle.operands.proofs.numbers.clash_in.Statement.{statement}
+use Rattle.operands.proofs.numbers.clash_in.Tie as tie
+
+cast-result : tie.Need-cast-result
+cast-result c = search needs
+
+returns : tie.Need-returns
+returns c = rw (lt-ltb _ _ (c .if1 .taken))
+
+returns-2 : tie.Need-returns-2
+returns-2 c = rw (le-ltb _ _ (c .if1 .left))
+
+pub clash-in-spec : {M : Type 1} → statement M
+clash-in-spec = tie.close (tie.spec cast-result returns returns-2)

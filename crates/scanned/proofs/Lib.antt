@@ -1,0 +1,3 @@
+pub mod ReadingScanned
+pub mod StartsAscend
+pub mod TooDeepPlace
