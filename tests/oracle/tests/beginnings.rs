@@ -4,7 +4,7 @@
 
 mod common;
 
-use common::Prng;
+use common::{Prng, OPERATORS};
 use oracle::beginning::first_astray;
 use oracle::tokens::{code, Token};
 use oracle::tree::parse;
@@ -19,26 +19,6 @@ enum Symbol {
 }
 
 use Symbol::{Level, Primary};
-
-/// The binary operators level by level, from level 2 to level 12.
-const OPERATORS: [&[u8]; 11] = [
-    &[code::TIMES, code::DIVIDE, code::REMAINDER],
-    &[code::PLUS, code::MINUS],
-    &[code::SHIFT_LEFT, code::SHIFT_RIGHT],
-    &[
-        code::LESS,
-        code::LESS_EQUAL,
-        code::GREATER,
-        code::GREATER_EQUAL,
-    ],
-    &[code::EQUAL, code::UNEQUAL],
-    &[code::BIT_AND],
-    &[code::BIT_XOR],
-    &[code::BIT_OR],
-    &[code::AND],
-    &[code::XOR],
-    &[code::OR, code::OR_BARS],
-];
 
 type Rule = (Symbol, Vec<Symbol>);
 

@@ -3,30 +3,10 @@
 
 mod common;
 
-use common::Prng;
+use common::{Prng, OPERATORS};
 use oracle::tokens::{code, scan, Token};
 use oracle::tree::{parse, Node, Tree};
 use oracle::{evaluate, Outcome};
-
-/// The binary operators level by level, from level 2 to level 12.
-const LEVELS: [&[u8]; 11] = [
-    &[code::TIMES, code::DIVIDE, code::REMAINDER],
-    &[code::PLUS, code::MINUS],
-    &[code::SHIFT_LEFT, code::SHIFT_RIGHT],
-    &[
-        code::LESS,
-        code::LESS_EQUAL,
-        code::GREATER,
-        code::GREATER_EQUAL,
-    ],
-    &[code::EQUAL, code::UNEQUAL],
-    &[code::BIT_AND],
-    &[code::BIT_XOR],
-    &[code::BIT_OR],
-    &[code::AND],
-    &[code::XOR],
-    &[code::OR, code::OR_BARS],
-];
 
 /// Every derivation of `codes` at a level, each written with brackets and the
 /// tokens by their numbers. The first token's number is `from`.
@@ -40,7 +20,7 @@ fn derivations(level: usize, codes: &[u8], from: usize) -> Vec<String> {
         _ => {
             let mut found = derivations(level - 1, codes, from);
             for at in 1..codes.len() {
-                if LEVELS[level - 2].contains(&codes[at]) {
+                if OPERATORS[level - 2].contains(&codes[at]) {
                     let right = derivations(level - 1, &codes[at + 1..], from + at + 1);
                     if right.is_empty() {
                         continue;

@@ -1,6 +1,7 @@
 //! Small things that the tests share.
 #![allow(dead_code)]
 
+use oracle::tokens::code;
 use oracle::{evaluate, select, Refusal, Value};
 
 /// A record with its fields at the places document 01 gives them.
@@ -105,3 +106,23 @@ impl Prng {
         items[self.below(items.len())]
     }
 }
+
+/// The binary operators level by level, from level 2 to level 12.
+pub const OPERATORS: [&[u8]; 11] = [
+    &[code::TIMES, code::DIVIDE, code::REMAINDER],
+    &[code::PLUS, code::MINUS],
+    &[code::SHIFT_LEFT, code::SHIFT_RIGHT],
+    &[
+        code::LESS,
+        code::LESS_EQUAL,
+        code::GREATER,
+        code::GREATER_EQUAL,
+    ],
+    &[code::EQUAL, code::UNEQUAL],
+    &[code::BIT_AND],
+    &[code::BIT_XOR],
+    &[code::BIT_OR],
+    &[code::AND],
+    &[code::XOR],
+    &[code::OR, code::OR_BARS],
+];
