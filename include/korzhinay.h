@@ -5,8 +5,8 @@
  * neither read nor written and may be null. Lent arrays are written as each call says, and nowhere else; they must not overlap each other
  * or what the same call reads. The library keeps no state, so calls may run at the same time.
  *
- * Refusals have numbers from 1 to 26; korzhinay_meaning, at the end, has their meanings. docs/LANGUAGE.md describes the language, with an
- * example of each refusal.
+ * Refusals have numbers from 1 to 26, of enum korzhinay_refusal; korzhinay_meaning, at the end, has their meanings. docs/LANGUAGE.md
+ * describes the language, with an example of each refusal.
  *
  * Refusals 3 to 12 have a place, given as the offset of a byte from the start of the expression, in a selection from the start of the line:
  *    3  the first byte of the bad token: of a string its quote, of a wide string its `L`, of a macro its `$`; or the byte that starts none
@@ -31,11 +31,61 @@
 extern "C" {
 #endif
 
+/* The version of this header, and of the library and the command that come with it. The shared library's name ends with the major one. */
+#define KORZHINAY_VERSION_MAJOR 0
+#define KORZHINAY_VERSION_MINOR 1
+#define KORZHINAY_VERSION_PATCH 0
+#define KORZHINAY_VERSION "0.1.0"
+
+/* The limits. The refusal of what is past a limit is beside it. */
+#define KORZHINAY_RECORD_BYTES 128          /* of each record of a table, no more and no less: 1 */
+#define KORZHINAY_MAX_RECORDS 512           /* in a table: 1 */
+#define KORZHINAY_MAX_NAME_BYTES 64         /* of a name in a record; a longer name is in no table */
+#define KORZHINAY_MAX_CONTENT_BYTES 56      /* of a string in a record: 1 */
+#define KORZHINAY_MAX_EXPRESSION_BYTES 1024 /* of an expression: 2 */
+#define KORZHINAY_MAX_TOKENS 200            /* in an expression: 5 */
+#define KORZHINAY_MAX_PARENTHESES 16        /* that are open at the same time: 6 */
+#define KORZHINAY_MAX_FIELD_BYTES 2044      /* of a data field; no expression has a longer one */
+#define KORZHINAY_MAX_FILE_BYTES 65536      /* of a file: 14 */
+#define KORZHINAY_MAX_LINES 4096            /* in a file: 15 */
+#define KORZHINAY_MAX_LINE_BYTES 1024       /* of a line without its end: 17 */
+#define KORZHINAY_MAX_GROUPS 16             /* that are open at the same time: 20 */
+
 /* No call needs more than this many bytes of stack, whatever its input. They have to be free where the call is made: what a thread takes of
  * its stack for itself, and signal handlers, come on top. This is measured and not proved, since it depends on the frames that the compiler
  * makes: tests/stack/ makes every call on the deepest inputs that the limits allow, in threads that have just this much for it, and fails
  * if any call uses more than three quarters. */
 #define KORZHINAY_STACK 32768
+
+/* The numbers of refusals. A later version may have more: any number other than 0 is a refusal. */
+enum korzhinay_refusal {
+    KORZHINAY_REFUSAL_TABLE_MALFORMED = 1,
+    KORZHINAY_REFUSAL_EXPRESSION_LONG = 2,
+    KORZHINAY_REFUSAL_TOKEN_BAD = 3,
+    KORZHINAY_REFUSAL_LITERAL_LARGE = 4,
+    KORZHINAY_REFUSAL_TOKENS_MANY = 5,
+    KORZHINAY_REFUSAL_PARENTHESES_DEEP = 6,
+    KORZHINAY_REFUSAL_NO_DERIVATION = 7,
+    KORZHINAY_REFUSAL_BAR_OUTSIDE = 8,
+    KORZHINAY_REFUSAL_PCD_MISSING = 9,
+    KORZHINAY_REFUSAL_KINDS_UNSUITED = 10,
+    KORZHINAY_REFUSAL_RESULT_RANGE = 11,
+    KORZHINAY_REFUSAL_DIVISOR_ZERO = 12,
+    KORZHINAY_REFUSAL_CONDITION_VALUE = 13,
+    KORZHINAY_REFUSAL_FILE_LONG = 14,
+    KORZHINAY_REFUSAL_LINES_MANY = 15,
+    KORZHINAY_REFUSAL_MARKS_SHORT = 16,
+    KORZHINAY_REFUSAL_LINE_LONG = 17,
+    KORZHINAY_REFUSAL_WORD_UNKNOWN = 18,
+    KORZHINAY_REFUSAL_DIRECTIVE_STRAY = 19,
+    KORZHINAY_REFUSAL_NESTING_DEEP = 20,
+    KORZHINAY_REFUSAL_FILE_UNFINISHED = 21,
+    KORZHINAY_REFUSAL_TEXT_MALFORMED = 22,
+    KORZHINAY_REFUSAL_DATUM_UNKNOWN = 23,
+    KORZHINAY_REFUSAL_DATUM_KIND = 24,
+    KORZHINAY_REFUSAL_DATUM_RANGE = 25,
+    KORZHINAY_REFUSAL_BUFFER_SHORT = 26
+};
 
 /* Whether a table of settings is well formed: 0, or the refusal number 1.
  * A table is 0 to 512 records of 128 bytes and nothing else, the 64 bytes of their names strictly ascending. A record:
@@ -67,8 +117,9 @@ uint8_t korzhinay_lookup(const uint8_t *table, size_t table_len, const uint8_t *
  * The arrays hold of each token that was read: its code, one of enum korzhinay_code; its start, counted from 0; its length in bytes, quotes
  * and `L`, or `$(` and `)`, included; and the value of a number literal or a truth word (0 for any other). Entries from out[1] on stay as
  * they were. */
-void korzhinay_tokens(const uint8_t *expression, size_t expression_len, uint64_t out[3], uint8_t codes[200],
-                      uint16_t starts[200], uint16_t lens[200], uint64_t values[200]);
+void korzhinay_tokens(const uint8_t *expression, size_t expression_len, uint64_t out[3], uint8_t codes[KORZHINAY_MAX_TOKENS],
+                      uint16_t starts[KORZHINAY_MAX_TOKENS], uint16_t lens[KORZHINAY_MAX_TOKENS],
+                      uint64_t values[KORZHINAY_MAX_TOKENS]);
 
 /* The codes of tokens. */
 enum korzhinay_code {
@@ -150,7 +201,7 @@ enum korzhinay_memory {
  *   out[1]  the offset of the refusal; 0 without one, and for 1, 2 and 23 to 26
  * The field is a number in 1, 1, 2, 4 or 8 bytes, little endian, for BOOLEAN and UINT8 to UINT64; for VOID* it is a string and one
  * zero byte, or a wide string as two bytes for each of its own, that one and a zero, and two zero bytes.
- * No field has more than 2,044 bytes, so a buffer of 2,044 bytes is always enough.
+ * A buffer of KORZHINAY_MAX_FIELD_BYTES is always enough.
  * Refusals: those of korzhinay_evaluate, 1 to 12; then the first of these that applies:
  *   23  datum is none of enum korzhinay_datum
  *   24  the value's kind does not suit the datum: a number for VOID*, or a string of either kind for any other
@@ -176,8 +227,8 @@ enum korzhinay_datum {
  *   out[1]  how many lines the file has; 0 with a refusal
  *   out[2]  how many operators were applied, summed over all expressions that were read; 0 with a refusal
  *   out[3]  the offset of the refusal, counted from the first byte of its line; 0 without one, and for 1 and 13 to 22
- * A line ends at LF, and a CR right before that LF is part of the end. What follows the last LF is a line if it has any byte. No file
- * that is accepted has more than 4,096 lines, so 4,096 marks are always enough.
+ * A line ends at LF, and a CR right before that LF is part of the end. What follows the last LF is a line if it has any byte.
+ * KORZHINAY_MAX_LINES marks are always enough.
  * A line whose first byte, blanks left out, is `!` has as its word the letters after it; case matters. It is a directive if the word is
  * if, ifdef, ifndef, elseif, elif (the same as elseif), else or endif. With the words include and error it is plain, as all other lines
  * are. !if and !elseif are true if the expression after them is 1, !ifdef if the table has the macro's name, whatever its value, !ifndef
@@ -222,32 +273,32 @@ static inline const char *korzhinay_meaning(uint8_t number)
 {
     switch (number) {
     case 0: return "no refusal";
-    case 1: return "the table of settings is malformed";
-    case 2: return "the expression is longer than 1,024 bytes";
-    case 3: return "no token can be read at some byte";
-    case 4: return "a number literal is above 2^64 - 1";
-    case 5: return "something follows token 200";
-    case 6: return "at some token `(` outnumber `)` by more than 16";
-    case 7: return "the tokens form no expression";
-    case 8: return "`|` or `||` stands outside parentheses";
-    case 9: return "a PCD is not in the table";
-    case 10: return "an operator does not take operands of these kinds";
-    case 11: return "a result is below 0 or above 2^64 - 1";
-    case 12: return "zero divisor";
-    case 13: return "a condition has to be the number 0 or the number 1";
-    case 14: return "the file is longer than 65,536 bytes";
-    case 15: return "the file has more than 4,096 lines";
-    case 16: return "there are fewer marks than lines";
-    case 17: return "the line is longer than 1,024 bytes";
-    case 18: return "unknown directive";
-    case 19: return "the directive has no open `!if`, or comes after its `!else`";
-    case 20: return "16 groups are open already";
-    case 21: return "this `!if` is still open at the end of the file";
-    case 22: return "the text after the directive's word is not what it takes";
-    case 23: return "unknown datum type";
-    case 24: return "the value's kind does not suit the datum type";
-    case 25: return "the number is too large for the datum type";
-    case 26: return "the buffer is shorter than the field";
+    case KORZHINAY_REFUSAL_TABLE_MALFORMED: return "the table of settings is malformed";
+    case KORZHINAY_REFUSAL_EXPRESSION_LONG: return "the expression is longer than 1,024 bytes";
+    case KORZHINAY_REFUSAL_TOKEN_BAD: return "no token can be read at some byte";
+    case KORZHINAY_REFUSAL_LITERAL_LARGE: return "a number literal is above 2^64 - 1";
+    case KORZHINAY_REFUSAL_TOKENS_MANY: return "something follows token 200";
+    case KORZHINAY_REFUSAL_PARENTHESES_DEEP: return "at some token `(` outnumber `)` by more than 16";
+    case KORZHINAY_REFUSAL_NO_DERIVATION: return "the tokens form no expression";
+    case KORZHINAY_REFUSAL_BAR_OUTSIDE: return "`|` or `||` stands outside parentheses";
+    case KORZHINAY_REFUSAL_PCD_MISSING: return "a PCD is not in the table";
+    case KORZHINAY_REFUSAL_KINDS_UNSUITED: return "an operator does not take operands of these kinds";
+    case KORZHINAY_REFUSAL_RESULT_RANGE: return "a result is below 0 or above 2^64 - 1";
+    case KORZHINAY_REFUSAL_DIVISOR_ZERO: return "zero divisor";
+    case KORZHINAY_REFUSAL_CONDITION_VALUE: return "a condition has to be the number 0 or the number 1";
+    case KORZHINAY_REFUSAL_FILE_LONG: return "the file is longer than 65,536 bytes";
+    case KORZHINAY_REFUSAL_LINES_MANY: return "the file has more than 4,096 lines";
+    case KORZHINAY_REFUSAL_MARKS_SHORT: return "there are fewer marks than lines";
+    case KORZHINAY_REFUSAL_LINE_LONG: return "the line is longer than 1,024 bytes";
+    case KORZHINAY_REFUSAL_WORD_UNKNOWN: return "unknown directive";
+    case KORZHINAY_REFUSAL_DIRECTIVE_STRAY: return "the directive has no open `!if`, or comes after its `!else`";
+    case KORZHINAY_REFUSAL_NESTING_DEEP: return "16 groups are open already";
+    case KORZHINAY_REFUSAL_FILE_UNFINISHED: return "this `!if` is still open at the end of the file";
+    case KORZHINAY_REFUSAL_TEXT_MALFORMED: return "the text after the directive's word is not what it takes";
+    case KORZHINAY_REFUSAL_DATUM_UNKNOWN: return "unknown datum type";
+    case KORZHINAY_REFUSAL_DATUM_KIND: return "the value's kind does not suit the datum type";
+    case KORZHINAY_REFUSAL_DATUM_RANGE: return "the number is too large for the datum type";
+    case KORZHINAY_REFUSAL_BUFFER_SHORT: return "the buffer is shorter than the field";
     default: return "unknown refusal";
     }
 }

@@ -1,6 +1,6 @@
-"""Layout and lints of everything that is not Rattle: lint.py [fmt] [clippy] [shell], or all three. Every Rust package and every shell
-script of the repository is found, so that a new one is covered. A tool that is not installed is left out, and named. The last line says
-how many passed and how many failed."""
+"""Layout and lints of everything that is not Rattle: lint.py [fmt] [clippy] [shell] [types], or all of them. Every Rust package and every
+shell script of the repository is found, so that a new one is covered; types are those of the Python module. A tool that is not installed
+is left out, and named. The last line says how many passed and how many failed."""
 import os
 import shutil
 import subprocess
@@ -68,7 +68,12 @@ def shell():
             run("lints of %s" % path, "shellcheck", path)
 
 
-PARTS = {"fmt": fmt, "clippy": clippy, "shell": shell}
+def types():
+    if is_installed("mypy"):
+        run("types of the Python module", "mypy", "--strict", "--cache-dir", os.devnull, "python/korzhinay")
+
+
+PARTS = {"fmt": fmt, "clippy": clippy, "shell": shell, "types": types}
 
 
 def main(words):

@@ -56,9 +56,10 @@ pub fn time(command: &Path) {
 }
 
 #[rustfmt::skip]
-fn own(command: &Path) -> [Tool; 2] {
+fn own(command: &Path) -> [Tool; 3] {
     [
         Tool::new("korzhinay select -s SETTINGS", command, "select -s settings.txt file.dsc", Same::Bytes),
+        Tool::new("the same, --quiet", command, "select --quiet -s settings.txt file.dsc", Same::Bytes),
         Tool::new("korzhinay select -t TABLE", command, "select -t settings.bin file.dsc", Same::Bytes),
     ]
 }
@@ -99,10 +100,15 @@ impl Tool {
             // cargo sets it for what it runs, and a search for a shared library would try its folders first
             .env_remove("LD_LIBRARY_PATH")
             .stdin(Stdio::null())
-            .stderr(Stdio::inherit())
             .output()
             .unwrap_or_else(|error| panic!("{}: {error}", self.what));
-        assert!(output.status.success(), "{}: {}", self.what, output.status);
+        let said = String::from_utf8_lossy(&output.stderr);
+        assert!(
+            output.status.success(),
+            "{}: {}\n{said}",
+            self.what,
+            output.status
+        );
         output.stdout
     }
 }

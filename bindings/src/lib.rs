@@ -1,4 +1,4 @@
-//! The calls of the proved library for Rust: the functions, codes and limits of include/korzhinay.h, which describes each of them.
+//! The calls of the proved library for Rust: the functions, codes, refusals and limits of include/korzhinay.h, which describes them all.
 //!
 //! The functions at the root take slices and references. `raw` has the C functions themselves, for a caller that needs pointers.
 
@@ -11,6 +11,7 @@ pub mod limit;
 pub mod mark;
 pub mod memory;
 pub mod raw;
+pub mod refusal;
 pub mod token;
 
 pub use calls::{evaluate, field, lookup, select, table, tokens};

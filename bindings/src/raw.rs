@@ -7,7 +7,7 @@
 //! - Each pointer is valid for the length that comes with it, or for the one that is named at the function: `const` ones for reads,
 //!   `mut` ones for writes. A pointer whose length is 0 may be null or dangling.
 //! - What a call writes overlaps neither what it reads nor anything else that it writes.
-//! - 32,768 bytes of stack are left.
+//! - As many bytes of stack are left as [`crate::limit::STACK`] says.
 //!
 //! No function keeps a pointer or a state, so calls may run at the same time.
 

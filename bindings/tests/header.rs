@@ -1,10 +1,14 @@
-//! The declarations of this package agree with include/korzhinay.h: the codes by name and number, the functions by name, parameters
-//! and result.
+//! The declarations of this package agree with include/korzhinay.h: codes, refusals and limits by name and number, functions by name,
+//! parameters and result. Refusals agree with the proved code too.
 
 use std::collections::BTreeMap;
 
 const HEADER: &str = include_str!("../../include/korzhinay.h");
 const RAW: &str = include_str!("../src/raw.rs");
+const REFUSAL: &str = include_str!("../src/refusal.rs");
+const LIMIT: &str = include_str!("../src/limit.rs");
+/// Where the proved code has the numbers of refusals.
+const UNITS: &str = include_str!("../../crates/units/src/lib.rt");
 
 /// The members of an enum of the header, without their prefix.
 fn members(name: &str, prefix: &str) -> BTreeMap<String, String> {
@@ -24,9 +28,21 @@ fn constants(source: &str) -> BTreeMap<String, String> {
     let constant = |line: &str| {
         let (name, rest) = line.strip_prefix("pub const ")?.split_once(':')?;
         let (_, number) = rest.split_once(" = ")?;
-        Some((name.to_string(), number.trim_end_matches(';').to_string()))
+        let digits = number.trim_end_matches(';').replace('_', "");
+        Some((name.to_string(), digits))
     };
     source.lines().filter_map(constant).collect()
+}
+
+/// The macros of the header that are numbers, without their prefix and those of the version.
+fn limits_of_header() -> BTreeMap<String, String> {
+    let limit = |line: &str| {
+        let mut words = line.strip_prefix("#define KORZHINAY_")?.split_whitespace();
+        let (name, number) = (words.next()?, words.next()?);
+        let is_limit = number.parse::<usize>().is_ok() && !name.starts_with("VERSION_");
+        is_limit.then(|| (name.to_string(), number.to_string()))
+    };
+    HEADER.lines().filter_map(limit).collect()
 }
 
 #[test]
@@ -37,11 +53,24 @@ fn codes_agree() {
         ("memory", "KORZHINAY_IN_", include_str!("../src/memory.rs")),
         ("datum", "KORZHINAY_DATUM_", include_str!("../src/datum.rs")),
         ("mark", "KORZHINAY_MARK_", include_str!("../src/mark.rs")),
+        ("refusal", "KORZHINAY_REFUSAL_", REFUSAL),
     ] {
         let declared = constants(source);
         assert!(!declared.is_empty(), "{name}");
         assert_eq!(declared, members(name, prefix), "{name}");
     }
+}
+
+#[test]
+fn refusals_are_those_of_the_proved_code() {
+    assert_eq!(constants(REFUSAL), constants(UNITS));
+}
+
+#[test]
+fn limits_agree() {
+    let declared = constants(LIMIT);
+    assert!(!declared.is_empty());
+    assert_eq!(declared, limits_of_header());
 }
 
 /// A parameter or a result of C as Rust writes it; an array is a pointer.

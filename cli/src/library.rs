@@ -1,16 +1,16 @@
 //! The calls of the proved library, with answers in Rust's types.
 
 mod evaluation;
-mod refusal;
+mod refused;
 mod selection;
 mod table;
 mod tokens;
 mod value;
 
-pub use bindings::{datum, kind, limit, mark, token};
-pub use evaluation::{evaluate, field};
-pub use refusal::Refusal;
-pub use selection::select;
-pub use table::{check_table, lookup};
-pub use tokens::{single_token, tokens, Token};
+pub use bindings::{datum, kind, limit, mark, refusal, token};
+pub use evaluation::{evaluate, field, Evaluation};
+pub use refused::Refusal;
+pub use selection::{select, Selection};
+pub use table::{check_table, is_pcd, lookup};
+pub use tokens::{single_token, tokens, Token, Tokens};
 pub use value::Value;

@@ -3,7 +3,6 @@
 
 mod bad_token;
 mod brief;
-mod columns;
 mod directive;
 mod excerpt;
 mod expression;

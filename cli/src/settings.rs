@@ -10,4 +10,4 @@ mod setting;
 mod sources;
 
 pub use record::{records, stored_name};
-pub use sources::Sources;
+pub use sources::{Definition, Settings, Sources};

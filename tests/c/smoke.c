@@ -19,7 +19,7 @@ static void check(const char *what, int good)
 /* What stands in lent memory, and on both sides of it, before a call. */
 #define UNTOUCHED 0xA5
 #define GUARD 64
-#define MOST_LENT 1600
+#define MOST_LENT (KORZHINAY_MAX_TOKENS * sizeof(uint64_t))
 
 /* An array that is lent to a call, with guards on both sides that the call must leave alone. */
 struct lent {
@@ -62,7 +62,7 @@ static size_t length_of(const char *text)
 static void check_table(const uint8_t *table, size_t table_len)
 {
     check("a table of one record", korzhinay_table(table, table_len) == 0);
-    check("a record cut short", korzhinay_table(table, table_len - 1) == 1);
+    check("a record cut short", korzhinay_table(table, table_len - 1) == KORZHINAY_REFUSAL_TABLE_MALFORMED);
     check("no table", korzhinay_table(NULL, 0) == 0);
 }
 
@@ -82,12 +82,12 @@ static int finds(const uint64_t found[3], uint64_t kind, uint64_t number, uint64
 
 static void check_lookup(const uint8_t *table, size_t table_len, const uint8_t *strings, size_t strings_len)
 {
-    uint8_t string[128];
+    uint8_t string[KORZHINAY_RECORD_BYTES];
     uint64_t found[3];
 
     check("a lookup", lookup(table, table_len, "WEEK", found) == 0);
     check("a number", finds(found, KORZHINAY_KIND_NUMBER, 48, 0));
-    check("a lookup in a table cut short", lookup(table, table_len - 1, "WEEK", found) == 1);
+    check("a lookup in a table cut short", lookup(table, table_len - 1, "WEEK", found) == KORZHINAY_REFUSAL_TABLE_MALFORMED);
     check("finds nothing and writes nothing", untouched(found, sizeof found));
     check("a part of a name", lookup(table, table_len, "WEE", found) == 0);
     check("is no such name", finds(found, 255, 0, 0));
@@ -100,9 +100,9 @@ static void check_lookup(const uint8_t *table, size_t table_len, const uint8_t *
 }
 
 struct tokens {
-    uint64_t out[3], values[200];
-    uint16_t starts[200], lens[200];
-    uint8_t codes[200];
+    uint64_t out[3], values[KORZHINAY_MAX_TOKENS];
+    uint16_t starts[KORZHINAY_MAX_TOKENS], lens[KORZHINAY_MAX_TOKENS];
+    uint8_t codes[KORZHINAY_MAX_TOKENS];
 };
 
 static void tokens(const char *text, struct tokens *t)
@@ -123,7 +123,7 @@ static void tokens(const char *text, struct tokens *t)
 /* Whether the entries from this one on are as they were. */
 static int stays_from(size_t first, const struct tokens *t)
 {
-    size_t rest = 200 - first;
+    size_t rest = KORZHINAY_MAX_TOKENS - first;
     return untouched(t->codes + first, rest) && untouched(t->starts + first, rest * sizeof t->starts[0])
         && untouched(t->lens + first, rest * sizeof t->lens[0]) && untouched(t->values + first, rest * sizeof t->values[0]);
 }
@@ -149,14 +149,14 @@ static void check_tokens(void)
     check("200 tokens", scanned(&t, 0, 200, 0) && t.codes[199] == KORZHINAY_COMPLEMENT && t.starts[199] == 199);
     most[200] = '~';
     tokens(most, &t);
-    check("201 tokens", scanned(&t, 5, 200, 200));
+    check("201 tokens", scanned(&t, KORZHINAY_REFUSAL_TOKENS_MANY, 200, 200));
     memset(deep, '(', 17);
     tokens(deep, &t);
-    check("17 parentheses", scanned(&t, 6, 17, 16));
+    check("17 parentheses", scanned(&t, KORZHINAY_REFUSAL_PARENTHESES_DEEP, 17, 16));
     tokens("1 @", &t);
-    check("a token before a fault", scanned(&t, 3, 1, 2));
+    check("a token before a fault", scanned(&t, KORZHINAY_REFUSAL_TOKEN_BAD, 1, 2));
     tokens("1 + 18446744073709551616", &t);
-    check("a number too large", scanned(&t, 4, 2, 4));
+    check("a number too large", scanned(&t, KORZHINAY_REFUSAL_LITERAL_LARGE, 2, 4));
     tokens("1 2", &t);
     check("no expression, but tokens", scanned(&t, 0, 2, 0));
 }
@@ -195,15 +195,15 @@ static void check_evaluation(const uint8_t *table, size_t table_len)
     check("its place", answers(out, KORZHINAY_KIND_STRING, 0, 1, KORZHINAY_IN_EXPRESSION, 5, 2));
     check("a wide string of the table", evaluate("$(NAME)", table, table_len, out) == 0);
     check("its place in the table", answers(out, KORZHINAY_KIND_WIDE, 0, 0, KORZHINAY_IN_TABLE, 72, 2));
-    check("a zero divisor", evaluate("1 / 0", table, table_len, out) == 12);
+    check("a zero divisor", evaluate("1 / 0", table, table_len, out) == KORZHINAY_REFUSAL_DIVISOR_ZERO);
     check("six zeros, and the operator", refused_at(out, 2));
-    check("kinds", evaluate("'b' + ($(NAME) - 1)", table, table_len, out) == 10);
+    check("kinds", evaluate("'b' + ($(NAME) - 1)", table, table_len, out) == KORZHINAY_REFUSAL_KINDS_UNSUITED);
     check("at the inner operator", refused_at(out, 15));
-    check("a good beginning", evaluate("1 + # 2", NULL, 0, out) == 7);
+    check("a good beginning", evaluate("1 + # 2", NULL, 0, out) == KORZHINAY_REFUSAL_NO_DERIVATION);
     check("at the comment", refused_at(out, 4));
-    check("a table cut short", evaluate("1", table, table_len - 1, out) == 1);
+    check("a table cut short", evaluate("1", table, table_len - 1, out) == KORZHINAY_REFUSAL_TABLE_MALFORMED);
     check("has no place", refused_at(out, 0));
-    check("nothing at all", evaluate(NULL, NULL, 0, out) == 7 && refused_at(out, 0));
+    check("nothing at all", evaluate(NULL, NULL, 0, out) == KORZHINAY_REFUSAL_NO_DERIVATION && refused_at(out, 0));
 }
 
 /* Of a buffer of so many bytes, at most 8; without any there is none. */
@@ -251,14 +251,19 @@ static void check_field(const uint8_t *table, size_t table_len)
     check("its bytes and a zero", written(out, buffer, "ab", 3));
     check("a wide string", field(buffer, 8, "$(NAME)", table, table_len, KORZHINAY_DATUM_VOID, out) == 0);
     check("two bytes each", written(out, buffer, "x\0y\0\0", 6));
-    check("a string too long", field(buffer, 2, "'ab'", NULL, 0, KORZHINAY_DATUM_VOID, out) == 26);
+    check("a string too long", field(buffer, 2, "'ab'", NULL, 0, KORZHINAY_DATUM_VOID, out) == KORZHINAY_REFUSAL_BUFFER_SHORT);
     check("leaves the buffer", left(out, buffer, 0));
-    check("a number too large", field(buffer, 8, "2", NULL, 0, KORZHINAY_DATUM_BOOLEAN, out) == 25 && left(out, buffer, 0));
-    check("a number for VOID*", field(buffer, 8, "2", NULL, 0, KORZHINAY_DATUM_VOID, out) == 24 && left(out, buffer, 0));
-    check("an unknown datum", field(buffer, 8, "2", NULL, 0, 6, out) == 23 && left(out, buffer, 0));
-    check("a missing PCD first", field(buffer, 8, "1 + g.Pcd", table, table_len, 6, out) == 9 && left(out, buffer, 4));
-    check("a bar outside parentheses", field(buffer, 8, "(1 | 2) | 4", NULL, 0, KORZHINAY_DATUM_UINT8, out) == 8 && left(out, buffer, 8));
-    check("no buffer", field(buffer, 0, "1", NULL, 0, KORZHINAY_DATUM_UINT8, out) == 26 && left(out, buffer, 0));
+    check("a number too large", field(buffer, 8, "2", NULL, 0, KORZHINAY_DATUM_BOOLEAN, out) == KORZHINAY_REFUSAL_DATUM_RANGE
+          && left(out, buffer, 0));
+    check("a number for VOID*", field(buffer, 8, "2", NULL, 0, KORZHINAY_DATUM_VOID, out) == KORZHINAY_REFUSAL_DATUM_KIND
+          && left(out, buffer, 0));
+    check("an unknown datum", field(buffer, 8, "2", NULL, 0, 6, out) == KORZHINAY_REFUSAL_DATUM_UNKNOWN && left(out, buffer, 0));
+    check("a missing PCD first", field(buffer, 8, "1 + g.Pcd", table, table_len, 6, out) == KORZHINAY_REFUSAL_PCD_MISSING
+          && left(out, buffer, 4));
+    check("a bar outside parentheses", field(buffer, 8, "(1 | 2) | 4", NULL, 0, KORZHINAY_DATUM_UINT8, out) == KORZHINAY_REFUSAL_BAR_OUTSIDE
+          && left(out, buffer, 8));
+    check("no buffer", field(buffer, 0, "1", NULL, 0, KORZHINAY_DATUM_UINT8, out) == KORZHINAY_REFUSAL_BUFFER_SHORT
+          && left(out, buffer, 0));
     check("all of a buffer", field(buffer, 8, "~0", NULL, 0, KORZHINAY_DATUM_UINT64, out) == 0);
     check("eight bytes", written(out, buffer, "\xFF\xFF\xFF\xFF\xFF\xFF\xFF\xFF", 8));
 }
@@ -299,19 +304,19 @@ static void check_selection(const uint8_t *table, size_t table_len)
     check("its six marks, and no more", shows(out, 0, 6, 2, 0) && holds(marks, group, 6));
     check("a name that is set", selection(marks, 2, "!ifndef WEEK\n!endif # c\n", table, table_len, out) == 0);
     check("two marks for two lines", shows(out, 0, 2, 0, 0) && holds(marks, "\3\5", 2));
-    check("a mark too few", selection(marks, 1, "a\nb", table, table_len, out) == 16);
+    check("a mark too few", selection(marks, 1, "a\nb", table, table_len, out) == KORZHINAY_REFUSAL_MARKS_SHORT);
     check("of no line", shows(out, 0, 0, 0, 0) && refused(marks, 1));
-    check("a zero divisor", selection(marks, 8, "a\n !if 1 / 0\n!endif\n", table, table_len, out) == 12);
+    check("a zero divisor", selection(marks, 8, "a\n !if 1 / 0\n!endif\n", table, table_len, out) == KORZHINAY_REFUSAL_DIVISOR_ZERO);
     check("in line 2 at byte 7, every mark 255", shows(out, 2, 0, 0, 7) && refused(marks, 8));
-    check("a condition without an expression", selection(marks, 8, "!if  \r\n", NULL, 0, out) == 7);
+    check("a condition without an expression", selection(marks, 8, "!if  \r\n", NULL, 0, out) == KORZHINAY_REFUSAL_NO_DERIVATION);
     check("at the end of its line", shows(out, 1, 0, 0, 5) && refused(marks, 8));
-    check("no condition", selection(marks, 8, "!if 2\n!endif", NULL, 0, out) == 13);
+    check("no condition", selection(marks, 8, "!if 2\n!endif", NULL, 0, out) == KORZHINAY_REFUSAL_CONDITION_VALUE);
     check("has a line and no place in it", shows(out, 1, 0, 0, 0) && refused(marks, 8));
-    check("an open group", selection(marks, 7, "!if 1\n!if 0\n", NULL, 0, out) == 21);
+    check("an open group", selection(marks, 7, "!if 1\n!if 0\n", NULL, 0, out) == KORZHINAY_REFUSAL_FILE_UNFINISHED);
     check("the inner one", shows(out, 2, 0, 0, 0) && refused(marks, 7));
-    check("a table cut short", selection(marks, 8, "a", table, table_len - 1, out) == 1);
+    check("a table cut short", selection(marks, 8, "a", table, table_len - 1, out) == KORZHINAY_REFUSAL_TABLE_MALFORMED);
     check("and every mark 255 again", shows(out, 0, 0, 0, 0) && refused(marks, 8));
-    check("an unknown word", selection(marks, 8, "!iff 1", NULL, 0, out) == 18 && shows(out, 1, 0, 0, 0));
+    check("an unknown word", selection(marks, 8, "!iff 1", NULL, 0, out) == KORZHINAY_REFUSAL_WORD_UNKNOWN && shows(out, 1, 0, 0, 0));
     check("no file, no marks", selection(marks, 0, NULL, NULL, 0, out) == 0 && shows(out, 0, 0, 0, 0));
     check("as many marks as lines", selection(marks, 8, "\n\n\n\n\n\n\n\n", NULL, 0, out) == 0);
     check("eight", shows(out, 0, 8, 0, 0) && holds(marks, "\1\1\1\1\1\1\1\1", 8));
@@ -344,8 +349,8 @@ static void check_meanings(void)
 
 int main(void)
 {
-    uint8_t settings[256] = "NAME";
-    uint8_t *week = settings + 128;
+    uint8_t settings[2 * KORZHINAY_RECORD_BYTES] = "NAME";
+    uint8_t *week = settings + KORZHINAY_RECORD_BYTES;
 
     settings[64] = KORZHINAY_KIND_WIDE;
     settings[65] = 2;
@@ -353,8 +358,8 @@ int main(void)
     memcpy(week, "WEEK", 4);
     week[65] = 8;
     week[72] = 48;
-    check_table(week, 128);
-    check_lookup(week, 128, settings, sizeof settings);
+    check_table(week, KORZHINAY_RECORD_BYTES);
+    check_lookup(week, KORZHINAY_RECORD_BYTES, settings, sizeof settings);
     check_tokens();
     check_evaluation(settings, sizeof settings);
     check_field(settings, sizeof settings);

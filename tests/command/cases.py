@@ -1,20 +1,17 @@
 """The cases. A case is a folder of cases/: `args` (one argument to a line), `stdin` if it reads any, `env` if it sets anything
 (NAME=VALUE), and what it has to give: `stdout`, `stderr` (an absent file: nothing), `status`, and `written`, the content of the
-file that the argument @written stands for (an absent file: nothing was written). `output` says where standard output goes if it
-is not read: to a terminal (and then `stdout` is what appears there), to a closed pipe, or to a file."""
+file that the argument @written means (an absent file: nothing was written). In `stderr` the line @usage is the usage that
+the help of the subcommand begins with. `output` says where standard output goes if it is not read: to a terminal (and then
+`stdout` is what appears there), to a closed pipe, or to a file."""
 import os
 import pty
 import subprocess
 import tempfile
 import tty
 
-from command import HERE, run
+from command import HERE, run, usage
+from folders import content
 from tally import chosen
-
-
-def content(*path):
-    path = os.path.join(*path)
-    return open(path, "rb").read() if os.path.exists(path) else None
 
 
 def environment(case):
@@ -76,5 +73,6 @@ def checks():
             words = content(case, "args").split(b"\n")[:-1]
             arguments = [written.encode() if word == b"@written" else word for word in words]
             got = outcome(case, arguments) + (content(written),)
-        wanted = (content(case, "stdout") or b"", content(case, "stderr") or b"", int(content(case, "status")))
+        errors = (content(case, "stderr") or b"").replace(b"@usage\n", usage(words[0].decode() if words else ""))
+        wanted = (content(case, "stdout") or b"", errors, int(content(case, "status")))
         yield "case %s" % name, got, wanted + (content(case, "written"),)

@@ -4,17 +4,16 @@ import re
 import subprocess
 import tempfile
 
-from command import COMMAND, ROOT, SECONDS, answer
+from command import FOUND, ROOT, SECONDS, SUBCOMMANDS, answer, usage
 from meanings import meanings
 from tally import chosen
 
-OPTION = re.compile(r"(?<![\w-])(--[a-z]+|-[a-zA-Z])(?![\w-])")
-SUBCOMMANDS = ["select", "eval", "field", "tokens", "table"]
+OPTION = re.compile(r"(?<![\w-])(--[a-z]+(?:-[a-z]+)*|-[a-zA-Z])(?![\w-])")
 
 
 def page():
     """The man page's text without its macros' names and escapes."""
-    source = open(os.path.join(ROOT, "docs", "korzhinay.1"), encoding="utf-8").read()
+    source = open(os.path.join(ROOT, "target", "korzhinay.1"), encoding="utf-8").read()
     plain = source.replace("\\-", "-").replace("\\(aq", "'").replace("\\(dq", '"').replace("\\(ga", "`").replace("\\(ha", "^")
     return re.sub(r"\\f[BIRP]", "", plain)
 
@@ -33,9 +32,9 @@ def options_of_helps():
     yield "options of the man page", set(OPTION.findall(section(text, "OPTIONS"))), everywhere
     yield "options in the whole man page", set(OPTION.findall(text)), everywhere
     for name in SUBCOMMANDS:
-        usage = answer([name, "--help"])[0].decode().splitlines()[0].removeprefix("usage: ")
-        lines = " ".join(section(text, "SYNOPSIS").split())
-        yield "synopsis of %s" % name, usage in lines, True
+        wanted = " ".join(usage(name).decode().removeprefix("usage: ").split())
+        yield "synopsis of %s" % name, wanted in " ".join(section(text, "SYNOPSIS").split()), True
+        yield "section of %s" % name, section(text, name) != "", True
 
 
 def refusals():
@@ -59,11 +58,10 @@ def examples():
     """The page's examples work, one after the other."""
     lines = [line for line in section(page(), "EXAMPLES").splitlines() if line.startswith("korzhinay ")]
     yield "there are examples", len(lines) > 5, True
-    path = os.path.dirname(COMMAND) + os.pathsep + os.environ["PATH"]
     with tempfile.TemporaryDirectory() as folder:
         os.symlink(os.path.join(ROOT, "examples"), os.path.join(folder, "examples"))
         for line in lines:
-            done = subprocess.run(line, shell=True, cwd=folder, env={**os.environ, "PATH": path}, capture_output=True, timeout=SECONDS)
+            done = subprocess.run(line, shell=True, cwd=folder, env=FOUND, capture_output=True, timeout=SECONDS)
             yield "example %s" % line, (done.stderr, done.returncode), (b"", 0)
 
 

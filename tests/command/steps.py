@@ -1,33 +1,15 @@
 """Runs that one folder cannot hold: several steps, inputs that are made, streams that are closed."""
 import os
-import resource
 import shlex
-import signal
 import subprocess
-import tempfile
 
-from command import COMMAND, ROOT, SECONDS, answer, run
+from command import COMMAND, FOUND, ROOT, SECONDS, SUBCOMMANDS, answer, run
+from records import NUMBERS, OTHERS, PCD, STRINGS
 from tally import chosen
 
 MEBIBYTE = 1 << 20
-RECORD = 128
 # One byte more than a description file may have.
 TOO_MANY = 65_536 + 1
-
-
-def record(name, kind, content):
-    return name.ljust(64, b"\0") + bytes([kind, len(content)]) + bytes(6) + content.ljust(56, b"\0")
-
-
-NUMBERS = [record(b"A", 0, bytes(8)), record(b"B", 0, b"\xff" * 8)]
-STRINGS = [
-    record(b"C" + bytes([ord("A") + place]), 1 + place % 2, content)
-    for place, content in enumerate(
-        [b"", b"", b"it's", b"it's", b'"', b'"', b"a # b", b" = ", b"\t", b"\xe9\x00\x01", b"x" * 56, b"y" * 56, b"TRUE", b"1"])
-]
-PCD = [record(b"a.B", 1, b"z")]
-# What no settings file can hold.
-OTHERS = [record(b"D", 1, b"\r"), record(b"E", 2, b"\n"), record(b"F", 1, b"\"'"), record(b"G", 2, b"'\"")]
 
 
 def listing_is_read_back():
@@ -41,11 +23,11 @@ def listing_is_read_back():
 
 
 def examples_of_helps():
-    """The example of every help works at the root of the repository."""
-    for subcommand in ([], ["select"], ["eval"], ["field"], ["tokens"], ["table"]):
+    """The example of every help works at the root of the repository, where the command is installed."""
+    for subcommand in [[]] + [[name] for name in SUBCOMMANDS]:
         text = answer(subcommand + ["--help"])[0].decode()
         examples = [line.removeprefix("example: ") for line in text.splitlines() if line.startswith("example: ")]
-        done = subprocess.run(examples[0], shell=True, cwd=ROOT, capture_output=True, timeout=SECONDS)
+        done = subprocess.run("\n".join(examples), shell=True, cwd=ROOT, env=FOUND, capture_output=True, timeout=SECONDS)
         got = (len(examples), done.stdout != b"", done.stderr, done.returncode)
         yield "the example of help %s" % subcommand, got, (1, True, b"", 0)
 
@@ -66,53 +48,17 @@ def line_ends_in_definitions():
         yield "a line end in %r" % text, answer(["eval", "-D", text, "1"]), wanted
 
 
-def table_over_itself():
-    """A table can be written over the one that it was made from."""
-    with tempfile.TemporaryDirectory() as folder:
-        file = os.path.join(folder, "table.bin")
-        open(file, "wb").write(b"".join(NUMBERS))
-        got = answer(["table", "-t", file, "-D", "a.B=z", "-o", file]) + (open(file, "rb").read(),)
-    yield "a table over itself", got, (b"", b"", 0, b"".join(NUMBERS + PCD))
-
-
-def table_that_cannot_be_written():
-    """A table of which only the first records can be written leaves the old one as it was, and nothing beside it."""
-    def short():
-        signal.signal(signal.SIGXFSZ, signal.SIG_IGN)
-        resource.setrlimit(resource.RLIMIT_FSIZE, (RECORD, RECORD))
-
-    with tempfile.TemporaryDirectory() as folder:
-        file = os.path.join(folder, "table.bin")
-        open(file, "wb").write(NUMBERS[0])
-        got = answer(["table", "-D", "A=1", "-D", "B=2", "-o", file], preexec_fn=short)
-        wanted = (b"", b"korzhinay: %s: File too large (os error 27)\n" % file.encode(), 2)
-        yield "a table that cannot be written", got, wanted
-        yield "the table before it", (open(file, "rb").read(), os.listdir(folder)), (NUMBERS[0], ["table.bin"])
-
-
-def table_through_a_link():
-    """A link to a table stays a link, and the table keeps its permissions."""
-    with tempfile.TemporaryDirectory() as folder:
-        file, link = os.path.join(folder, "table.bin"), os.path.join(folder, "link.bin")
-        open(file, "wb").close()
-        os.chmod(file, 0o640)
-        os.symlink("table.bin", link)
-        answer(["table", "-D", "A=0", "-o", link])
-        got = (os.path.islink(link), os.stat(file).st_mode & 0o777, open(file, "rb").read())
-    yield "a table through a link", got, (True, 0o640, NUMBERS[0])
-
-
 def unusable_streams():
-    """A standard stream that is closed, or open the other way, is reported; it is never taken for an empty one or for one that was written."""
+    """A standard stream that is closed, or open the other way, is reported, and never taken for empty or for written."""
     reported = " (os error 9)\n"
     file = "examples/window-right.dsc"
     for arguments, stream in (("select -", "0"), ("select -s - " + file, "0"), ("select -t - " + file, "0"), ("eval 1", "1"),
-                              ("select -s examples/buoy.settings " + file, "1"), ("table -D A -o -", "1"), ("--help", "1")):
+                              ("select --quiet -s examples/buoy.settings " + file, "1"), ("table -D A -o -", "1"), ("--help", "1")):
         other_way = "0>/dev/null" if stream == "0" else "1</dev/null"
         name = "-" if stream == "0" else "standard output"
         for redirection in ("%s>&-" % stream, other_way):
-            done = subprocess.run("exec %s %s %s" % (shlex.quote(COMMAND), arguments, redirection), shell=True, cwd=ROOT, stdin=subprocess.DEVNULL,
-                                  capture_output=True, text=True, timeout=SECONDS)
+            script = "exec %s %s %s" % (shlex.quote(COMMAND), arguments, redirection)
+            done = subprocess.run(script, shell=True, cwd=ROOT, stdin=subprocess.DEVNULL, capture_output=True, text=True, timeout=SECONDS)
             wanted = ("", "korzhinay: %s: Bad file descriptor%s" % (name, reported), 2)
             yield "%s with %s" % (arguments, redirection), (done.stdout, done.stderr, done.returncode), wanted
 
@@ -142,7 +88,7 @@ def closed_standard_error():
 
 
 def checks():
-    for part in (listing_is_read_back, examples_of_helps, length_of_settings, line_ends_in_definitions, table_over_itself,
-                 table_that_cannot_be_written, table_through_a_link, unusable_streams, input_without_end, closed_standard_error):
+    for part in (listing_is_read_back, examples_of_helps, length_of_settings, line_ends_in_definitions, unusable_streams, input_without_end,
+                 closed_standard_error):
         if chosen(part.__name__, "steps"):
             yield from part()

@@ -49,7 +49,7 @@ def answer(path, options):
     with open(path, "rb") as file:
         content = file.read()
     try:
-        run = subprocess.run([COMMAND, "select", "--marks", *options, "-"], input=content, capture_output=True, timeout=SECONDS)
+        run = subprocess.run([COMMAND, "select", "--quiet", "--marks", *options, "-"], input=content, capture_output=True, timeout=SECONDS)
     except subprocess.TimeoutExpired:
         return "FAILED, no end after %d seconds" % SECONDS, False
     message = run.stderr.decode(errors="backslashreplace")

@@ -1,4 +1,4 @@
-"""The limits of the first table: what is within them is not refused for its size, and one more is."""
+"""The limits in the table of 'What is read': what is within them is not refused for its size, and one more is."""
 import library
 from manual import matched, meaning, number, rows
 from records import ranges, written

@@ -1,5 +1,5 @@
-"""Description files that are refused, with the place at which an editor has to be: name, content, line, column in bytes, and the column in
-Emacs if it is another one."""
+"""Description files that are refused, or on which there is a note, with the place at which an editor has to be: name, content, line, column
+in bytes, and the column in Emacs if it is another one."""
 import collections
 
 File = collections.namedtuple("File", "name content line column emacs", defaults=[None])
@@ -21,6 +21,13 @@ FILES = {
     "too many lines": File("board.dsc", "\n" * 4097, 1, 1),
     "too many bytes": File("board.dsc", ("x" * 1000 + "\n") * 66, 1, 1),
     "a long line": File("board.dsc", "a\n" + "x" * 1025 + "\n", 2, 1),
+}
+
+# Accepted, with a note.
+NOTED = {
+    "a macro that is not set": File("board.dsc", "a\n  !if $(CELS) > 4\nb\n!endif\n", 2, 7),
+    "a line that is not obeyed": File("silicon/Board 7.dsc", "a\n\n  !include b.inc\n", 3, 3),
+    "a CR": File("board.dsc", "ab\rc\n", 1, 3),
 }
 
 # By default Emacs takes columns for those of the screen, where a tab ends at the next eighth, so it is at the end of the tab.

@@ -2,28 +2,49 @@
 
 use super::request::Request;
 use super::subcommand::{Operand, Subcommand};
-use crate::library;
+use crate::library::{self, Evaluation};
 use crate::refusals::of_expression;
-use crate::terminal::{print, push_literal, quote_for, Error};
+use crate::terminal::{
+    json_of_value, print_answer, print_shown, push_literal, quote_for, Error, Json, Members,
+};
 
 pub static EVAL: Subcommand = Subcommand {
     name: "eval",
-    usage: "[-D NAME[=VALUE]].. [-s SETTINGS].. [-t TABLE] EXPRESSION",
+    usage: "[-D NAME[=VALUE]].. [-U NAME].. [-s SETTINGS].. [-t TABLE] [--json] EXPRESSION",
     summary: "the value of an expression",
     about: "Prints the value of an expression: a number in decimal, a string in quotes, a wide string with L before them.",
-    example: "target/korzhinay eval -D WEEK=50 '$(WEEK) GE 48 OR $(WEEK) LE 5'",
-    options: &["-D", "-s", "-t", "--help"],
+    example: "korzhinay eval -D WEEK=50 '$(WEEK) GE 48 OR $(WEEK) LE 5'",
+    options: &["--define", "--undefine", "--settings", "--table", "--json", "--help"],
     operand: Operand::Expression,
     run,
 };
 
 fn run(request: &Request) -> Result<(), Error> {
+    if request.has("--json") {
+        let value = |found: &Evaluation| (json_of_value(&found.value), found.operators);
+        return print_answer(EVAL.name, evaluate(request, value), members);
+    }
+    print_shown(&evaluate(request, line)?)
+}
+
+/// What is made of the value of the expression.
+fn evaluate<T>(request: &Request, made: impl Fn(&Evaluation) -> T) -> Result<T, Error> {
     let table = request.sources().merged()?;
     let expression = request.operand();
-    let value = library::evaluate(expression, &table)
+    let found = library::evaluate(expression, &table)
         .map_err(|refusal| of_expression(expression, &table, &refusal))?;
+    Ok(made(&found))
+}
+
+fn line(found: &Evaluation) -> Vec<u8> {
     let mut text = Vec::new();
-    push_literal(&mut text, &value, quote_for(&value));
+    push_literal(&mut text, &found.value, quote_for(&found.value));
     text.push(b'\n');
-    print(&text)
+    text
+}
+
+/// The value and the count of operators, for --json.
+fn members(found: Option<(Json, u64)>) -> Members {
+    let (value, operators) = found.unwrap_or((Json::Null, 0));
+    vec![("value", value), ("operators", Json::Number(operators))]
 }

@@ -1,54 +1,68 @@
-//! `select`: the lines of a description file that are kept.
+//! `select`: the lines of description files that are kept.
 
+mod forms;
+mod report;
+
+use super::output;
 use super::request::Request;
 use super::subcommand::{Operand, Subcommand};
-use crate::library::{self, mark};
-use crate::refusals::of_file;
-use crate::terminal::{annotated, escaped, lines, print, read, without_end, Error};
+use crate::examined::Examined;
+use crate::terminal::{has_colours, say, write, Error};
+use report::Report;
 
 pub static SELECT: Subcommand = Subcommand {
     name: "select",
-    usage: "[-D NAME[=VALUE]].. [-s SETTINGS].. [-t TABLE] [--annotate | --marks] FILE",
-    summary: "the lines of a description file that are kept",
-    about: "Prints the lines of a description file that are kept, byte for byte. FILE - is standard input.
+    usage: "[-D NAME[=VALUE]].. [-U NAME].. [-s SETTINGS].. [-t TABLE] \
+            [--annotate | --marks | --keep-lines | --json] [--quiet | --strict] [-o OUT] FILE..",
+    summary: "the lines of description files that are kept",
+    about: "Prints the lines of description files that are kept, byte for byte. FILE - is standard input.
 Marks: 0 a dropped line, 1 a kept one; of directives 2 not read, 3 branch not taken, 4 branch taken, 5 a read !endif.
-On a terminal --annotate dims the marks 0 and 2, unless NO_COLOR is set.",
-    example: "target/korzhinay select -s examples/buoy.settings --annotate examples/window-right.dsc",
-    options: &["-D", "-s", "-t", "--annotate", "--marks", "--help"],
-    operand: Operand::File,
+On a terminal --annotate dims the marks 0 and 2, unless NO_COLOR is set.
+Notes on standard error name what may be a slip: macros that are not set, settings that nothing uses, lines that are not obeyed.",
+    example: r"printf '!if $(WEEK) LE 5\n  Watchdog.inf\n!endif\n' | korzhinay select -D WEEK=3 --annotate -",
+    options: &[
+        "--define",
+        "--undefine",
+        "--settings",
+        "--table",
+        "--output",
+        "--annotate",
+        "--marks",
+        "--keep-lines",
+        "--json",
+        "--quiet",
+        "--strict",
+        "--help",
+    ],
+    operand: Operand::Files,
     run,
 };
 
 fn run(request: &Request) -> Result<(), Error> {
-    if request.has("--annotate") && request.has("--marks") {
-        return Err(Error::Usage(
-            "--annotate and --marks exclude each other".into(),
-        ));
+    let forms = ["--annotate", "--marks", "--keep-lines", "--json"];
+    let form = request.at_most_one(&forms).map_err(Error::Usage)?;
+    let loudness = request.at_most_one(&["--quiet", "--strict"]);
+    let loudness = loudness.map_err(Error::Usage)?;
+    let output = request.one("--output").unwrap_or(b"-");
+    let inputs = request.all("--settings").chain(request.one("--table"));
+    output::check(output, inputs.chain(request.operands().iter().copied()))?;
+
+    let settings = request.sources().settings()?;
+    let files = Examined::all(request.operands(), &settings.table)?;
+
+    let report = match loudness {
+        Some("--quiet") => Report::without_notes(&files),
+        _ => Report::new(&files, &settings),
+    };
+    let is_refused = files.iter().any(|file| file.outcome.is_err());
+    let is_strict = loudness == Some("--strict") && report.count() > 0;
+    say(&report.text(&files, loudness));
+    if !is_strict && (!is_refused || form == Some("--json")) {
+        let has_colours = output == b"-" && has_colours();
+        write(output, &forms::printed(form, &files, &report, has_colours))?;
     }
-    let table = request.sources().merged()?;
-    let name = request.operand();
-    let file = read(name)?;
-    let marks =
-        library::select(&file, &table).map_err(|refusal| of_file(name, &file, &table, &refusal))?;
-    let lines: Vec<&[u8]> = lines(&file).collect();
-    if lines.len() != marks.len() {
-        // Both split the file by the same rule; if they ever differ, no line may be lost.
-        let (name, here, there) = (escaped(name), lines.len(), marks.len());
-        return Err(Error::Failed(format!(
-            "{name}: {here} lines and {there} marks"
-        )));
-    }
-    let lines = lines.into_iter().zip(marks);
-    if request.has("--marks") {
-        let marks: String = lines.map(|(_, mark)| format!("{mark}\n")).collect();
-        print(marks.as_bytes())
-    } else if request.has("--annotate") {
-        print(annotated(lines.map(|(line, mark)| (without_end(line), mark))).as_bytes())
-    } else {
-        let kept: Vec<&[u8]> = lines
-            .filter(|(_, mark)| *mark == mark::KEPT)
-            .map(|(line, _)| line)
-            .collect();
-        print(&kept.concat())
+    match is_refused || is_strict {
+        true => Err(Error::Said),
+        false => Ok(()),
     }
 }

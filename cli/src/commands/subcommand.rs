@@ -11,9 +11,9 @@ pub struct Subcommand {
     /// What it gives, in a few words.
     pub summary: &'static str,
     pub about: &'static str,
-    /// A call that can be pasted at the root of the repository.
+    /// A call that can be pasted.
     pub example: &'static str,
-    /// The words of the options that it takes.
+    /// The long forms of the options that it takes.
     pub options: &'static [&'static str],
     pub operand: Operand,
     pub run: fn(&Request) -> Result<(), Error>,
@@ -22,7 +22,7 @@ pub struct Subcommand {
 impl Subcommand {
     /// The options that it takes.
     pub fn options(&self) -> impl Iterator<Item = &'static OptionSpec> + '_ {
-        let is_taken = |option: &&OptionSpec| self.options.contains(&option.word);
+        let is_taken = |option: &&OptionSpec| self.options.contains(&option.long);
         OPTIONS.iter().filter(is_taken)
     }
 }
@@ -30,7 +30,8 @@ impl Subcommand {
 /// What a subcommand works on besides its options.
 #[derive(Clone, Copy, PartialEq)]
 pub enum Operand {
-    File,
+    /// One file or several.
+    Files,
     /// As the last word it may begin with `-`.
     Expression,
     /// A short form of -t, which may be left out.
@@ -40,7 +41,7 @@ pub enum Operand {
 impl Operand {
     pub fn word(self) -> &'static str {
         match self {
-            Operand::File => "FILE",
+            Operand::Files => "FILE",
             Operand::Expression => "EXPRESSION",
             Operand::Table => "TABLE",
         }

@@ -2,45 +2,71 @@
 
 use super::request::Request;
 use super::subcommand::{Operand, Subcommand};
-use crate::library::{self, token, Token};
+use crate::library::{self, token, Token, Tokens};
 use crate::refusals::of_expression;
-use crate::terminal::{print, Error};
+use crate::terminal::{end, escaped, print, print_answer, Error, Json};
 
 pub static TOKENS: Subcommand = Subcommand {
     name: "tokens",
-    usage: "EXPRESSION",
+    usage: "[--json] EXPRESSION",
     summary: "the tokens of an expression",
     about: "Lists the tokens of an expression: where each starts, how many bytes it has, what it is, its text and, of a number or a
 truth word, its value.",
-    example: "target/korzhinay tokens '$(WEEK) GE 0x30'",
-    options: &["--help"],
+    example: "korzhinay tokens '$(WEEK) GE 0x30'",
+    options: &["--json", "--help"],
     operand: Operand::Expression,
     run,
 };
 
 fn run(request: &Request) -> Result<(), Error> {
     let expression = request.operand();
-    let found = library::tokens(expression);
-    let mut text = Vec::new();
-    for token in &found.read {
-        push_row(&mut text, expression, token);
-    }
-    print(&text)?;
-    match found.refusal {
+    let Tokens { read, refusal } = library::tokens(expression);
+    let outcome = match refusal {
         None => Ok(()),
         // No table has a part in tokens and their refusals.
         Some(refusal) => Err(of_expression(expression, b"", &refusal)),
+    };
+    if request.has("--json") {
+        let objects = read.iter().map(|token| object(expression, token));
+        let tokens = ("tokens", Json::List(objects.collect()));
+        return print_answer(TOKENS.name, outcome, |_| vec![tokens]);
+    }
+    let rows: String = read.iter().map(|token| row(expression, token)).collect();
+    let printed = print(rows.as_bytes());
+    match outcome {
+        Err(Error::Refused(refused)) => end(printed, Some(refused.text)),
+        _ => printed,
     }
 }
 
-fn push_row(text: &mut Vec<u8>, expression: &[u8], token: &Token) {
-    let code = code_in_words(token.code);
-    text.extend(format!("{:>4} {:>4}  {code:<11}  ", token.start, token.len).bytes());
-    text.extend(&expression[token.start..][..token.len]);
-    if [token::NUMBER, token::TRUTH].contains(&token.code) {
-        text.extend(format!("  = {}", token.value).bytes());
-    }
-    text.push(b'\n');
+fn row(expression: &[u8], token: &Token) -> String {
+    let Token { start, len, .. } = *token;
+    let (code, text) = (code_in_words(token.code), escaped(text(expression, token)));
+    let value = number(token).map_or(String::new(), |value| format!("  = {value}"));
+    format!("{start:>4} {len:>4}  {code:<11}  {text}{value}\n")
+}
+
+/// The token for --json.
+fn object(expression: &[u8], token: &Token) -> Json {
+    Json::Object(vec![
+        ("start", Json::Number(token.start as u64)),
+        ("length", Json::Number(token.len as u64)),
+        ("code", Json::Number(token.code.into())),
+        ("kind", Json::text(code_in_words(token.code))),
+        ("text", Json::text(text(expression, token))),
+        ("number", number(token).map_or(Json::Null, Json::Number)),
+    ])
+}
+
+fn text<'a>(expression: &'a [u8], token: &Token) -> &'a [u8] {
+    &expression[token.start..][..token.len]
+}
+
+/// The value of a number or a truth word.
+fn number(token: &Token) -> Option<u64> {
+    [token::NUMBER, token::TRUTH]
+        .contains(&token.code)
+        .then_some(token.value)
 }
 
 fn code_in_words(code: u8) -> &'static str {

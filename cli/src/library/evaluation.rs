@@ -5,20 +5,27 @@ use bindings::kind;
 use super::limit::MAX_FIELD_BYTES;
 use super::{Refusal, Value};
 
+/// The value of an expression, and how many operators were applied for it.
+pub struct Evaluation<'a> {
+    pub value: Value<'a>,
+    pub operators: u64,
+}
+
 /// The value of an expression under a table.
-pub fn evaluate<'a>(expression: &'a [u8], table: &'a [u8]) -> Result<Value<'a>, Refusal> {
+pub fn evaluate<'a>(expression: &'a [u8], table: &'a [u8]) -> Result<Evaluation<'a>, Refusal> {
     let mut out = [0; 7];
     let refusal = bindings::evaluate(expression, table, &mut out);
-    let [found, number, _, memory, start, len, offset] = out;
+    let [found, number, operators, memory, start, len, offset] = out;
     if refusal != 0 {
         return Err(Refusal::of_expression(refusal, offset));
     }
     let string = || &[expression, table][memory as usize][start as usize..][..len as usize];
-    Ok(match found {
+    let value = match found {
         kind::NUMBER => Value::Number(number),
         kind::STRING => Value::String(string()),
         _ => Value::Wide(string()),
-    })
+    };
+    Ok(Evaluation { value, operators })
 }
 
 /// The bytes of a data field.

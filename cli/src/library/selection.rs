@@ -3,12 +3,20 @@
 use super::limit::MAX_LINES;
 use super::Refusal;
 
-/// The marks of the lines of a file.
-pub fn select(file: &[u8], table: &[u8]) -> Result<Vec<u8>, Refusal> {
+/// The lines of a file that was accepted.
+pub struct Selection {
+    /// One mark for each line.
+    pub marks: Vec<u8>,
+    /// How many operators were applied.
+    pub operators: u64,
+}
+
+/// The selection of the lines of a file.
+pub fn select(file: &[u8], table: &[u8]) -> Result<Selection, Refusal> {
     let mut marks = vec![0; MAX_LINES];
     let mut out = [0; 4];
     let number = bindings::select(&mut marks, file, table, &mut out);
-    let [line, lines, _, offset] = out;
+    let [line, lines, operators, offset] = out;
     if number != 0 {
         return Err(Refusal {
             number,
@@ -17,5 +25,5 @@ pub fn select(file: &[u8], table: &[u8]) -> Result<Vec<u8>, Refusal> {
         });
     }
     marks.truncate(lines as usize);
-    Ok(marks)
+    Ok(Selection { marks, operators })
 }

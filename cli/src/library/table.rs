@@ -2,12 +2,17 @@
 
 use bindings::kind;
 
-use super::Value;
+use super::{single_token, token, Value};
 
 /// The refusal number of a table, if it has one.
 pub fn check_table(table: &[u8]) -> Option<u8> {
     let refusal = bindings::table(table);
     (refusal != 0).then_some(refusal)
+}
+
+/// Whether a name is a PCD's; otherwise it is a macro's.
+pub fn is_pcd(name: &[u8]) -> bool {
+    single_token(name).is_some_and(|token| token.code == token::PCD)
 }
 
 /// The value of a name in a table; a malformed table has none.

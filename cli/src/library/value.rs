@@ -6,3 +6,14 @@ pub enum Value<'a> {
     String(&'a [u8]),
     Wide(&'a [u8]),
 }
+
+impl Value<'_> {
+    /// The kind in words.
+    pub fn kind(&self) -> &'static str {
+        match self {
+            Value::Number(_) => "number",
+            Value::String(_) => "string",
+            Value::Wide(_) => "wide string",
+        }
+    }
+}

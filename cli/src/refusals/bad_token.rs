@@ -1,13 +1,13 @@
 //! Bytes at which no token can be read (3).
 
 use super::brief::brief;
+use crate::description::split_run;
 use crate::library::single_token;
 use crate::terminal::characters;
 
 /// What the text starts with instead of a token, and what to write.
 pub fn no_token(text: &[u8]) -> Option<String> {
-    let run = text.iter().take_while(|byte| is_in_run(byte)).count();
-    let (run, rest) = text.split_at(run);
+    let (run, rest) = split_run(text);
     let first = characters(text).next()?.text;
     let hint = match (run, rest) {
         (b"L", [quote @ (b'"' | b'\''), ..]) | (b"", [quote @ (b'"' | b'\''), ..]) => {
@@ -36,14 +36,11 @@ pub fn no_token(text: &[u8]) -> Option<String> {
 fn no_word(run: &[u8]) -> String {
     let (word, capitals) = (brief(run), run.to_ascii_uppercase());
     match single_token(&capitals) {
+        _ if capitals == b"IN" => format!("`{word}` is no operator here; compare with `==`"),
         Some(_) => format!(
             "`{word}` is no word of expressions; case matters: `{}`",
             brief(&capitals)
         ),
         None => format!("`{word}` is no word of expressions; a string wants quotes: \"{word}\""),
     }
-}
-
-fn is_in_run(byte: &u8) -> bool {
-    byte.is_ascii_alphanumeric() || *byte == b'_'
 }

@@ -1,7 +1,6 @@
 //! Texts from outside in the middle of a message.
 
-use super::columns::columns;
-use crate::terminal::characters;
+use crate::terminal::{characters, columns};
 
 /// The most columns of a text that a message repeats. Every name that a record holds is shorter.
 pub const MAX_COLUMNS: usize = 70;

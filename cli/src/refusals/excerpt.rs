@@ -1,7 +1,6 @@
 //! A text with a caret under one of its bytes.
 
-use super::columns::columns;
-use crate::terminal::{characters, Shown};
+use crate::terminal::{characters, columns, Shown};
 
 /// The most columns that are shown of a text, and the most of them before the caret if the text is longer.
 const MAX_COLUMNS: usize = 100;
@@ -32,15 +31,19 @@ fn part(all: &[Shown], at: usize) -> (usize, usize) {
     if width(all) <= MAX_COLUMNS {
         return (0, all.len());
     }
-    let mut start = at;
-    while start > 0 && width(&all[start - 1..at]) <= MAX_BEFORE {
-        start -= 1;
-    }
-    let mut end = at;
-    while end < all.len() && width(&all[start..end + 1]) <= MAX_COLUMNS {
-        end += 1;
-    }
-    (start, end)
+    let before = fitting(all[..at].iter().rev(), MAX_BEFORE);
+    let room = MAX_COLUMNS - width(&all[at - before..at]);
+    (at - before, at + fitting(all[at..].iter(), room))
+}
+
+/// How many characters fit into these columns; of those that take none, no more than that.
+fn fitting<'a>(characters: impl Iterator<Item = &'a Shown>, room: usize) -> usize {
+    let mut used = 0;
+    let fits = |shown: &&Shown| {
+        used += columns(&shown.text);
+        used <= room
+    };
+    characters.take(room).take_while(fits).count()
 }
 
 fn width(part: &[Shown]) -> usize {

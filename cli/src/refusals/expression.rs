@@ -3,18 +3,17 @@
 use std::ops::RangeInclusive;
 
 use super::brief::MAX_COLUMNS;
-use super::columns::columns;
 use super::message::Message;
 use super::values::bare;
 use super::{bad_token, grammar, kinds, names, results};
-use crate::library::Refusal;
-use crate::terminal::{escaped, Error};
+use crate::library::{refusal, Refusal};
+use crate::terminal::{columns, escaped, Error};
 
 /// The name that stands for an expression of the command line: no file has it by accident.
 pub const NAME: &[u8] = b"<expression>";
 
 /// The refusals that have a place.
-pub const PLACED: RangeInclusive<u8> = 3..=12;
+pub const PLACED: RangeInclusive<u8> = refusal::TOKEN_BAD..=refusal::DIVISOR_ZERO;
 
 /// The refusal of an expression by itself.
 pub fn of_expression(expression: &[u8], table: &[u8], refusal: &Refusal) -> Error {
@@ -32,13 +31,13 @@ pub fn of_expression(expression: &[u8], table: &[u8], refusal: &Refusal) -> Erro
 /// What helps with the refusal of an expression, by itself or in a directive. The offset is counted from its start.
 pub fn hint(expression: &[u8], table: &[u8], number: u8, offset: usize) -> Option<String> {
     match number {
-        3 => bad_token::no_token(expression.get(offset..)?),
-        7 => grammar::missing(expression, offset),
-        8 => Some(bar(expression)),
-        9 => names::missing_pcd(expression, offset),
-        10 => kinds::wrong_kinds(expression, table, offset),
-        11 => results::out_of_range(expression, table, offset),
-        12 => results::zero_divisor(expression, table, offset),
+        refusal::TOKEN_BAD => bad_token::no_token(expression.get(offset..)?),
+        refusal::NO_DERIVATION => grammar::missing(expression, offset),
+        refusal::BAR_OUTSIDE => Some(bar(expression)),
+        refusal::PCD_MISSING => names::missing_pcd(expression, offset),
+        refusal::KINDS_UNSUITED => kinds::wrong_kinds(expression, table, offset),
+        refusal::RESULT_RANGE => results::out_of_range(expression, table, offset),
+        refusal::DIVISOR_ZERO => results::zero_divisor(expression, table, offset),
         _ => None,
     }
 }

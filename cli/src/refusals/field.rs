@@ -3,15 +3,13 @@
 use super::expression::{of_expression, NAME};
 use super::message::Message;
 use super::values::described;
-use crate::library::Refusal;
+use crate::library::{refusal, Refusal};
 use crate::terminal::{escaped, Error};
-
-/// The first refusal of the field itself; those below it are of the expression.
-const FIRST_OF_FIELD: u8 = 23;
 
 /// The refusal of the field of an expression, for a datum type and what that takes.
 pub fn of_field(expression: &[u8], table: &[u8], datum: (&[u8], &str), refusal: &Refusal) -> Error {
-    if refusal.number < FIRST_OF_FIELD {
+    // Those below it are of the expression.
+    if refusal.number < refusal::DATUM_UNKNOWN {
         return of_expression(expression, table, refusal);
     }
     let value = described(expression, table);

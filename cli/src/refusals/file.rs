@@ -1,16 +1,17 @@
 //! Refusals of description files.
 
-use super::directive::{directive, first_byte, taken_by, unknown_word};
+use super::directive::{taken_by, unknown_word};
 use super::expression::{self, PLACED};
 use super::groups;
 use super::message::Message;
 use super::values;
-use crate::library::Refusal;
-use crate::terminal::{lines, without_end, Error};
+use crate::description::{directive, first_byte};
+use crate::library::{refusal, Refusal};
+use crate::terminal::{lines, without_end, Refused};
 
 /// The refusal of a file. One of a line that has no place of its own is shown at the line's first byte that is no blank, where its
 /// directive starts.
-pub fn of_file(name: &[u8], file: &[u8], table: &[u8], refusal: &Refusal) -> Error {
+pub fn of_file(name: &[u8], file: &[u8], table: &[u8], refusal: &Refusal) -> Refused {
     let Refusal {
         number,
         line,
@@ -29,24 +30,24 @@ pub fn of_file(name: &[u8], file: &[u8], table: &[u8], refusal: &Refusal) -> Err
         place,
         hint: place.and_then(|(_, offset)| hint(&lines, table, line, number, offset)),
     };
-    message.error()
+    message.refused()
 }
 
 /// What helps with the refusal of a line.
 fn hint(lines: &[&[u8]], table: &[u8], line: usize, number: u8, offset: usize) -> Option<String> {
     let (before, text) = (&lines[..line - 1], lines[line - 1]);
     match number {
-        17 => Some(format!("it has {} bytes without its end", text.len())),
-        19 => Some(groups::stray(before)),
-        20 => Some(groups::too_many(before)),
-        21 => Some(groups::unclosed(lines)),
+        refusal::LINE_LONG => Some(format!("it has {} bytes without its end", text.len())),
+        refusal::DIRECTIVE_STRAY => Some(groups::stray(before)),
+        refusal::NESTING_DEEP => Some(groups::too_many(before)),
+        refusal::FILE_UNFINISHED => Some(groups::unclosed(lines)),
         _ => {
             let found = directive(text)?;
             let argument = text.get(found.text..)?;
             match number {
-                13 => condition(argument, table),
-                18 => Some(unknown_word(found.word)),
-                22 => taken_by(found.word),
+                refusal::CONDITION_VALUE => condition(argument, table),
+                refusal::WORD_UNKNOWN => Some(unknown_word(found.word)),
+                refusal::TEXT_MALFORMED => taken_by(found.word),
                 _ => {
                     let offset = offset.checked_sub(found.text)?;
                     expression::hint(argument, table, number, offset)

@@ -1,7 +1,7 @@
 //! The groups that are open at a line, for refusals of the nesting.
 
 use super::brief::brief;
-use super::directive::directive;
+use crate::description::directive;
 
 /// The lines of a group's first directive and of its `!else`, counted from 1.
 struct Group<'a> {

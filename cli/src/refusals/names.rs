@@ -1,6 +1,7 @@
 //! Macros and PCDs that are not set.
 
 use super::brief::brief;
+use crate::description::macro_name;
 use crate::library::{self, token, Token};
 
 /// What is said of operands that are macros which are not set: a message goes on with it.
@@ -27,7 +28,7 @@ fn unset_macro(operand: &[u8], table: &[u8]) -> Option<String> {
         return None;
     };
     let text = &operand[*start..][..*len];
-    let name = text.strip_prefix(b"$(")?.strip_suffix(b")")?;
+    let name = macro_name(text)?;
     let is_unset = library::lookup(table, name).is_none();
     is_unset.then(|| brief(text))
 }

@@ -17,7 +17,8 @@ pub fn bare(expression: &[u8]) -> &[u8] {
 /// limit has no room for them, and then nothing is said of it.
 fn with_value<T>(expression: &[u8], table: &[u8], made: impl Fn(Value) -> T) -> Option<T> {
     let inside = [b"(", bare(expression), b")"].concat();
-    library::evaluate(&inside, table).ok().map(made)
+    let found = library::evaluate(&inside, table).ok()?;
+    Some(made(found.value))
 }
 
 /// The value of an expression if it is a number.
@@ -31,13 +32,8 @@ pub fn number(expression: &[u8], table: &[u8]) -> Option<u64> {
 /// The value of an expression in words.
 pub fn described(expression: &[u8], table: &[u8]) -> Option<String> {
     with_value(expression, table, |value| {
-        let kind = match value {
-            Value::Number(_) => "number",
-            Value::String(_) => "string",
-            Value::Wide(_) => "wide string",
-        };
         let mut literal = Vec::new();
         push_literal(&mut literal, &value, quote_for(&value));
-        format!("the {kind} {}", brief(&literal))
+        format!("the {} {}", value.kind(), brief(&literal))
     })
 }

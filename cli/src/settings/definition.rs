@@ -1,7 +1,7 @@
-//! A setting on the command line.
+//! Settings on the command line.
 
-use super::blanks::split_comment;
-use super::setting::{parse, Setting};
+use super::blanks::{split_comment, trim};
+use super::setting::{is_name, no_name, parse, Setting};
 use crate::terminal::{escaped, Error};
 
 /// The setting that -D gives.
@@ -17,4 +17,17 @@ pub fn read(text: &[u8]) -> Result<Setting, Error> {
             Err(fault) => Err(failed(fault.reason)),
         },
     }
+}
+
+/// The name that -U gives.
+pub fn name(text: &[u8]) -> Result<&[u8], Error> {
+    let failed = |reason| Error::Failed(format!("-U {}: {reason}", escaped(text)));
+    if text.contains(&b'=') {
+        return Err(failed("-U takes a name without a value".into()));
+    }
+    let name = trim(text);
+    // A name that is too long for a table may be meant to be unset all the same.
+    is_name(name)
+        .then_some(name)
+        .ok_or_else(|| failed(no_name(name)))
 }

@@ -5,12 +5,11 @@ use std::collections::HashMap;
 use super::blanks::{split_comment, trim};
 use super::record::stored_name;
 use super::setting::{parse, Fault, Setting};
+use crate::description::BYTE_ORDER_MARK;
 use crate::terminal::{escaped, read_at_most, Error};
 
 /// 1 MiB.
 const MAX_BYTES: usize = 1 << 20;
-
-const BYTE_ORDER_MARK: &[u8] = b"\xef\xbb\xbf";
 
 /// The settings of a file, each of another name.
 pub fn read(file: &[u8]) -> Result<Vec<Setting>, Error> {

@@ -1,12 +1,8 @@
 //! Why a text is no value, and what to write instead.
 
 use super::blanks::trim;
-use crate::library::{self, token};
+use crate::library::{self, refusal, token};
 use crate::terminal::escaped;
-
-/// The refusals that are reported as such: the text is too long, or a number too large.
-const TOO_LONG: u8 = 2;
-const TOO_LARGE: u8 = 4;
 
 /// A text that starts like a bare word and has another byte at `at`.
 pub fn no_word(text: &[u8], at: usize) -> String {
@@ -31,11 +27,11 @@ pub fn no_literal(text: &[u8]) -> String {
     let first = found.read.first();
     let refusal = found.refusal.map(|refusal| refusal.number);
     match (refusal, first.filter(|first| is_literal(first.code))) {
-        (Some(TOO_LONG), _) => format!(
+        (Some(refusal::EXPRESSION_LONG), _) => format!(
             "a value of {} bytes, and at most 1,024 are read",
             text.len()
         ),
-        (Some(TOO_LARGE), _) => "a number above 2^64 - 1".into(),
+        (Some(refusal::LITERAL_LARGE), _) => "a number above 2^64 - 1".into(),
         (_, Some(first)) => {
             let (value, rest) = text.split_at(first.len);
             let (value, rest) = (escaped(value), escaped(trim(rest)));

@@ -1,13 +1,11 @@
 //! One record of a table of settings: the name in 64 bytes, the kind, the length, six zeros, and the content in 56 bytes.
 
-use crate::library::limit::RECORD_BYTES;
+use crate::library::limit::{MAX_CONTENT_BYTES, MAX_NAME_BYTES, RECORD_BYTES};
 use crate::library::{kind, Value};
 
-pub const NAME_BYTES: usize = 64;
 const KIND_AT: usize = 64;
 const LENGTH_AT: usize = 65;
 const CONTENT_AT: usize = 72;
-const CONTENT_BYTES: usize = RECORD_BYTES - CONTENT_AT;
 
 /// The record of a value under a name of at most 64 bytes, or why there is none.
 pub fn encode(name: &[u8], value: &Value) -> Result<Vec<u8>, String> {
@@ -21,9 +19,9 @@ pub fn encode(name: &[u8], value: &Value) -> Result<Vec<u8>, String> {
         Value::Wide(string) => (kind::WIDE, *string),
     };
     let length = content.len();
-    if length > CONTENT_BYTES {
+    if length > MAX_CONTENT_BYTES {
         return Err(format!(
-            "a string of {length} bytes, and a record holds {CONTENT_BYTES}"
+            "a string of {length} bytes, and a record holds {MAX_CONTENT_BYTES}"
         ));
     }
     let mut record = vec![0; RECORD_BYTES];
@@ -41,6 +39,6 @@ pub fn records(table: &[u8]) -> impl Iterator<Item = &[u8]> {
 
 /// The name of a record, without its padding.
 pub fn stored_name(record: &[u8]) -> &[u8] {
-    let padded = &record[..NAME_BYTES];
+    let padded = &record[..MAX_NAME_BYTES];
     padded.split(|byte| *byte == 0).next().unwrap_or_default()
 }

@@ -2,8 +2,10 @@
 
 use super::blanks::trim;
 use super::literal;
-use super::record::{encode, NAME_BYTES};
-use crate::library::{single_token, token, Value};
+use super::record::encode;
+use crate::description::is_macro_name;
+use crate::library::limit::MAX_NAME_BYTES;
+use crate::library::{is_pcd, Value};
 use crate::terminal::escaped;
 
 /// A record, and where it was set.
@@ -33,22 +35,27 @@ pub fn parse(text: &[u8]) -> Result<Vec<u8>, Fault> {
     })
 }
 
-/// Whether a record can have this name: the library has to read it as a macro's or as a PCD's.
+/// Whether a record can have this name, and if not, why.
 fn check_name(name: &[u8]) -> Result<(), String> {
-    if name.is_empty() {
-        return Err("no name".into());
-    }
-    if name.len() > NAME_BYTES {
+    if name.len() > MAX_NAME_BYTES {
         return Err(format!(
-            "a name of {} bytes, and a record holds {NAME_BYTES}",
+            "a name of {} bytes, and a record holds {MAX_NAME_BYTES}",
             name.len()
         ));
     }
-    let code = |text: &[u8]| single_token(text).map(|token| token.code);
-    let macro_use = [b"$(", name, b")"].concat();
-    if code(&macro_use) == Some(token::MACRO) || code(name) == Some(token::PCD) {
-        return Ok(());
+    is_name(name).then_some(()).ok_or_else(|| no_name(name))
+}
+
+/// Whether the library reads a name as a macro's or as a PCD's.
+pub fn is_name(name: &[u8]) -> bool {
+    is_macro_name(name) || is_pcd(name)
+}
+
+/// What is said of a name that is none.
+pub fn no_name(name: &[u8]) -> String {
+    if name.is_empty() {
+        return "no name".into();
     }
     let name = escaped(name);
-    Err(format!("{name} names no macro (A-Z, then A-Z, 0-9 and _) and no PCD (two words with a . between them)"))
+    format!("{name} names no macro (A-Z, then A-Z, 0-9 and _) and no PCD (two words with a . between them)")
 }

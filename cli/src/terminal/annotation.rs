@@ -13,8 +13,7 @@ const DIM: &str = "\x1b[2m";
 const RESET: &str = "\x1b[0m";
 
 /// The number, the mark and the text of each line. The number has four places, since a file has at most 4,096 lines.
-pub fn annotated<'a>(lines: impl Iterator<Item = (&'a [u8], u8)>) -> String {
-    let has_colours = has_colours();
+pub fn annotated<'a>(lines: impl Iterator<Item = (&'a [u8], u8)>, has_colours: bool) -> String {
     let mut view = String::new();
     for (number, (text, mark)) in (1..).zip(lines) {
         let (start, end) = match has_colours && DIMMED.contains(&mark) {
@@ -27,8 +26,8 @@ pub fn annotated<'a>(lines: impl Iterator<Item = (&'a [u8], u8)>) -> String {
     view
 }
 
-/// Whether some lines are dimmed: on a terminal, unless NO_COLOR is set.
-fn has_colours() -> bool {
+/// Whether lines may be dimmed on standard output: if it is a terminal, unless NO_COLOR is set.
+pub fn has_colours() -> bool {
     let is_plain = env::var_os("NO_COLOR").is_some_and(|value| !value.is_empty());
     io::stdout().is_terminal() && !is_plain
 }

@@ -1,15 +1,25 @@
 //! Bytes from outside, as people see them.
 
+mod format_characters;
+
+use format_characters::is_format;
+
 /// A character, or a byte that is none: the offset of its first byte, and how it is shown.
 pub struct Shown {
     pub offset: usize,
     pub text: String,
 }
 
-/// Text as it is, except that control characters other than the tab, and bytes that are not UTF-8, become \xNN: none of them reaches a
-/// terminal.
+/// Text as it is, except that unseen characters other than the tab, and bytes that are not UTF-8, become \xNN for each byte: none of them
+/// reaches a terminal.
 pub fn escaped(bytes: &[u8]) -> String {
     characters(bytes).map(|shown| shown.text).collect()
+}
+
+/// Whether a character has no picture, and may change how others are shown: a control or a format character, or a separator of lines or
+/// paragraphs.
+pub fn is_unseen(character: char) -> bool {
+    character.is_control() || is_format(character) || matches!(character, '\u{2028}' | '\u{2029}')
 }
 
 /// The characters of a text, each as `escaped` shows it.
@@ -34,7 +44,7 @@ pub fn characters(bytes: &[u8]) -> impl Iterator<Item = Shown> + '_ {
 
 fn shown(character: char) -> String {
     let text = character.to_string();
-    match character.is_control() && character != '\t' {
+    match is_unseen(character) && character != '\t' {
         true => text.as_bytes().iter().map(escape).collect(),
         false => text,
     }

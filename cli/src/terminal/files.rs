@@ -1,14 +1,15 @@
 //! The files that a run reads and writes; `-` is standard input or output.
 
 use std::ffi::OsStr;
-use std::fs::{self, File};
-use std::io::{self, ErrorKind, Read, Write};
+use std::fs::File;
+use std::io::{self, Read};
 use std::os::unix::ffi::OsStrExt;
 use std::path::Path;
-use std::process;
 
 use super::error::Error;
 use super::escaping::escaped;
+use super::printing::print;
+use super::replacing::replace;
 use super::streams;
 use crate::library::limit;
 
@@ -33,53 +34,17 @@ pub fn read_at_most(file: &[u8], max: usize) -> Result<Vec<u8>, Error> {
     Ok(bytes)
 }
 
-/// Writes a file.
+/// Writes a file: all of it, or nothing.
 pub fn write(file: &[u8], bytes: &[u8]) -> Result<(), Error> {
-    if file == b"-" {
-        return print(bytes);
-    }
-    let path = Path::new(OsStr::from_bytes(file));
-    let written = match fs::metadata(path) {
-        Ok(found) if !found.is_file() => fs::write(path, bytes),
-        _ => replace(path, bytes),
-    };
-    written.map_err(|error| failed(file, error))
-}
-
-/// Replaces a file as a whole or leaves it as it is: a table that was cut off could pass for a whole one.
-fn replace(path: &Path, bytes: &[u8]) -> io::Result<()> {
-    // The target of a link is replaced, not the link.
-    let path = &fs::canonicalize(path).unwrap_or_else(|_| path.into());
-    let mut name = path.as_os_str().to_owned();
-    name.push(format!(".{}", process::id()));
-    let fresh = Path::new(&name);
-    let file = File::create_new(fresh)?;
-    let outcome = fill(file, bytes, path).and_then(|()| fs::rename(fresh, path));
-    if outcome.is_err() {
-        // The first error is the one to report.
-        let _ = fs::remove_file(fresh);
-    }
-    outcome
-}
-
-/// Writes a fresh file, with the permissions of the old one if there is one.
-fn fill(mut file: File, bytes: &[u8], old: &Path) -> io::Result<()> {
-    file.write_all(bytes)?;
-    match fs::metadata(old) {
-        Ok(old) => file.set_permissions(old.permissions()),
-        Err(_) => Ok(()),
+    match file {
+        b"-" => print(bytes),
+        _ => {
+            replace(Path::new(OsStr::from_bytes(file)), bytes).map_err(|error| failed(file, error))
+        }
     }
 }
 
-/// Writes to standard output.
-pub fn print(text: &[u8]) -> Result<(), Error> {
-    let written = streams::output().and_then(|mut output| output.write_all(text));
-    written.map_err(|error| match error.kind() {
-        ErrorKind::BrokenPipe => Error::BrokenPipe,
-        _ => failed(b"standard output", error),
-    })
-}
-
-fn failed(file: &[u8], error: io::Error) -> Error {
+/// A file or a stream that cannot be read or written.
+pub fn failed(file: &[u8], error: io::Error) -> Error {
     Error::Failed(format!("{}: {error}", escaped(file)))
 }

@@ -1,0 +1,35 @@
+//! `names`: the macros and PCDs that description files name.
+
+mod index;
+mod shown;
+
+use super::request::Request;
+use super::subcommand::{Operand, Subcommand};
+use crate::examined::Examined;
+use crate::terminal::{end, object, print, Error};
+use index::Index;
+
+pub static NAMES: Subcommand = Subcommand {
+    name: "names",
+    usage: "[-D NAME[=VALUE]].. [-U NAME].. [-s SETTINGS].. [-t TABLE] [--json] FILE..",
+    summary: "the macros and PCDs that description files name",
+    about: "Lists every macro and every PCD that the directives of the files name, read or not: its value, or that it is not set, and the
+lines that name it. FILE - is standard input.",
+    example: r"printf '!if $(WEEK) LE 5\n  Watchdog.inf\n!endif\n' | korzhinay names -D WEEK=3 -",
+    options: &["--define", "--undefine", "--settings", "--table", "--json", "--help"],
+    operand: Operand::Files,
+    run,
+};
+
+fn run(request: &Request) -> Result<(), Error> {
+    let table = request.sources().merged()?;
+    let files = Examined::all(request.operands(), &table)?;
+    let index = Index::new(&files);
+    let answer = match request.has("--json") {
+        true => object(NAMES.name, shown::members(&index, &files, &table)),
+        false => shown::rows(&index, &files, &table).into_bytes(),
+    };
+    let refused = files.iter().filter_map(|file| file.outcome.as_ref().err());
+    let text: String = refused.map(|refused| refused.text.as_str()).collect();
+    end(print(&answer), (!text.is_empty()).then_some(text))
+}

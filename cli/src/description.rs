@@ -1,0 +1,18 @@
+//! Description files, as far as the command looks into them itself: for notes, names and messages, never for a decision. What a line is,
+//! whether it is read, what a token is and what is set, the library says.
+
+mod bytes;
+mod directive;
+mod hidden;
+mod mentions;
+mod plain;
+mod quoted;
+mod runs;
+
+pub use bytes::{oddities, Oddity, Oddness, BYTE_ORDER_MARK};
+pub use directive::{directive, first_byte};
+pub use hidden::hidden_directive;
+pub use mentions::{is_macro_name, macro_name, mentions, Mention, Sort};
+pub use plain::{plain, Plain};
+pub use quoted::quoted_macros;
+pub use runs::split_run;

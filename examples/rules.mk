@@ -1,0 +1,23 @@
+# Selects the lines of one description file for each of some boards:
+#
+#   make -f rules.mk DESCRIPTION=Buoy.dsc BOARDS='spar drifter'
+#
+# reads Buoy.dsc with settings/spar.settings and settings/drifter.settings, and writes build/spar.dsc and build/drifter.dsc. A Makefile that
+# includes this file sets DESCRIPTION and BOARDS before.
+#
+# A run that fails leaves no output. The old one is removed first, and `-o` writes a file whole or not at all; with `>` a refusal would leave
+# an empty file, which the next make would take for made.
+
+KORZHINAY ?= korzhinay
+SETTINGS ?= settings
+BUILD ?= build
+# --strict makes notes failures, --quiet gives none.
+NOTES ?=
+
+.PHONY: boards
+boards: $(BOARDS:%=$(BUILD)/%.dsc)
+
+$(BOARDS:%=$(BUILD)/%.dsc): $(BUILD)/%.dsc: $(DESCRIPTION) $(SETTINGS)/%.settings
+	@mkdir -p $(@D)
+	@rm -f $@
+	$(KORZHINAY) select $(NOTES) -s $(SETTINGS)/$*.settings -o $@ $(DESCRIPTION)

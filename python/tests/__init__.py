@@ -1,0 +1,1 @@
+"""Tests of the module, over the library that was built in this checkout. From the root: `python3 tests/python/run.py`."""
