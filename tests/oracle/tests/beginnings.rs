@@ -4,9 +4,9 @@
 
 mod common;
 
-use common::{Prng, OPERATORS};
+use common::{tokens, Prng, OPERATORS};
 use oracle::beginning::first_astray;
-use oracle::tokens::{code, Token};
+use oracle::tokens::code;
 use oracle::tree::parse;
 
 #[derive(Clone, Copy, Debug, PartialEq, Eq)]
@@ -118,13 +118,7 @@ fn read(rules: &[Rule], codes: &[u8]) -> (Option<usize>, bool) {
 
 /// Checks one list, and gives the first token astray.
 fn compare(rules: &[Rule], codes: &[u8]) -> Option<usize> {
-    let token = |&code: &u8| Token {
-        code,
-        start: 0,
-        len: 0,
-        value: 0,
-    };
-    let tokens: Vec<Token> = codes.iter().map(token).collect();
+    let tokens = tokens(codes);
     let (astray, derives) = read(rules, codes);
     assert_eq!(first_astray(&tokens), astray, "{codes:?}");
     assert_eq!(parse(&tokens).is_some(), derives, "{codes:?}");

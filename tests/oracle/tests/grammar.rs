@@ -3,8 +3,8 @@
 
 mod common;
 
-use common::{Prng, OPERATORS};
-use oracle::tokens::{code, scan, Token};
+use common::{tokens, Prng, OPERATORS};
+use oracle::tokens::{code, scan};
 use oracle::tree::{parse, Node, Tree};
 use oracle::{evaluate, Outcome};
 
@@ -95,15 +95,7 @@ fn written(tree: &Tree, node: usize) -> String {
 
 /// Whether the list has a derivation; fails if the parser sees it otherwise.
 fn compare(codes: &[u8]) -> bool {
-    let tokens: Vec<Token> = codes
-        .iter()
-        .map(|&code| Token {
-            code,
-            start: 0,
-            len: 0,
-            value: 0,
-        })
-        .collect();
+    let tokens = tokens(codes);
     let parsed: Vec<String> = parse(&tokens)
         .iter()
         .map(|tree| written(tree, tree.root))

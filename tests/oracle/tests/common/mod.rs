@@ -1,7 +1,7 @@
 //! Small things that the tests share.
 #![allow(dead_code)]
 
-use oracle::tokens::code;
+use oracle::tokens::{code, Token};
 use oracle::{evaluate, select, Refusal, Value};
 
 /// A record with its fields at the places document 01 gives them.
@@ -84,6 +84,17 @@ pub fn selected(file: &[u8], table: &[u8]) -> Result<(Vec<u8>, u64), (Refusal, u
 /// As above for a file written with `|` for each LF between its lines.
 pub fn marks_of(file: &str) -> Result<(Vec<u8>, u64), (u8, usize)> {
     marks_in(file.replace('|', "\n").as_bytes(), &[])
+}
+
+/// Tokens of these codes; where they are does not matter.
+pub fn tokens(codes: &[u8]) -> Vec<Token> {
+    let token = |&code: &u8| Token {
+        code,
+        start: 0,
+        len: 0,
+        value: 0,
+    };
+    codes.iter().map(token).collect()
 }
 
 /// splitmix64, so that the random tests are the same everywhere.
