@@ -17,7 +17,7 @@
 # make examples [NAME=..]     the hook for git, the annotations and the rule for make; NAME is a part: folder, hook, annotations, rule
 # make python [NAME=..]       the module for Python; NAME is a test, a class or a file of python/tests
 # make installed [NAME=..]    what install and deb put in place, used and removed; NAME is one of the parts of tests/install/run.py
-# make corpus                 what is said of every description file in the folder DIR, under the file SETTINGS if there is one
+# make corpus                 what each edition says of every description file in the folder DIR, under the file SETTINGS if there is one
 # make bench                  speed beside the independent Rust implementation, and beside unifdef and cpp where they are installed
 # make instructions           instructions of single calls, by valgrind, which has to be installed
 # make fuzz                   differential tests for SECONDS seconds (default 60)
@@ -29,9 +29,10 @@ SHELL := bash
 SECONDS ?= 60
 DIR ?= tests/corpus/files
 LIB := target/staticlib/libkorzhinay.a
-# The header has the version; the shared library's name ends with its first number.
+# The header has the version; the shared library's name ends with its first number and, while that is 0, with its second one too.
 VERSION := $(shell sed -n 's/^\#define KORZHINAY_VERSION "\(.*\)"/\1/p' include/korzhinay.h)
-SONAME := libkorzhinay.so.$(firstword $(subst ., ,$(VERSION)))
+NUMBERS := $(subst ., ,$(VERSION))
+SONAME := libkorzhinay.so.$(firstword $(NUMBERS))$(if $(filter 0,$(firstword $(NUMBERS))),.$(word 2,$(NUMBERS)))
 PROVED := crates.txt $(shell find crates -type f -not -path '*/must-fail/*')
 # What the library is made of: the crates on which the one with the calls depends.
 LAYERS := $(shell sed -n 's/\#.*//; s/^korzhinay://p' crates.txt)

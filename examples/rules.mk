@@ -11,7 +11,9 @@
 KORZHINAY ?= korzhinay
 SETTINGS ?= settings
 BUILD ?= build
-# --strict makes notes failures, --quiet gives none.
+# new refuses bare words and `!ifdef $(NAME)`, old accepts them.
+EDITION ?= old
+# --strict makes notes failures, --quiet gives none, --warn-old gives more: on what EDITION=new would refuse.
 NOTES ?=
 
 .PHONY: boards
@@ -20,4 +22,4 @@ boards: $(BOARDS:%=$(BUILD)/%.dsc)
 $(BOARDS:%=$(BUILD)/%.dsc): $(BUILD)/%.dsc: $(DESCRIPTION) $(SETTINGS)/%.settings
 	@mkdir -p $(@D)
 	@rm -f $@
-	$(KORZHINAY) select $(NOTES) -s $(SETTINGS)/$*.settings -o $@ $(DESCRIPTION)
+	$(KORZHINAY) select --edition $(EDITION) $(NOTES) -s $(SETTINGS)/$*.settings -o $@ $(DESCRIPTION)

@@ -1,4 +1,5 @@
-/* Prints the lines of a description file that are kept if nothing is set, or the refusal, with its place as compilers write it:
+/* Prints the lines of a description file that are kept if nothing is set, in the old edition, or the refusal, with its place as compilers
+ * write it:
  *
  *     cc -o select select.c $(pkg-config --cflags --libs korzhinay)
  *     ./select board.dsc
@@ -26,7 +27,7 @@ int main(int argc, char **argv)
     fclose(input);
 
     uint64_t out[4];
-    uint8_t refusal = korzhinay_select(marks, sizeof marks, file, length, NULL, 0, out);
+    uint8_t refusal = korzhinay_select(marks, sizeof marks, file, length, NULL, 0, KORZHINAY_EDITION_OLD, out);
     if (refusal != 0) {
         uint64_t line = out[0] == 0 ? 1 : out[0], column = out[3] + 1;
         fprintf(stderr, "%s:%" PRIu64 ":%" PRIu64 ": refused (%d): %s\n", argv[1], line, column, refusal, korzhinay_meaning(refusal));

@@ -20,6 +20,14 @@
  *   10  the operator, `?` of `?:`; of several the leftmost one that has no wrong one inside its operands
  *   11, 12  the operator that evaluation met first: a left operand comes before a right one, and skipped operands are not evaluated
  * A token is at its first byte. The offset of every other refusal is 0.
+ *
+ * The dialect of a call is a number, of which bit 0 is the edition of the language: 0 new, 1 old; enum korzhinay_dialect names both. All
+ * other bits are ignored for now; leave them 0, since a later version may use them. In the old edition
+ *   - a bare word is a string of its own bytes, without quotes: letters, digits and `_`, no digit first, as the next token after `==`,
+ *     `!=`, EQ or NE, where nothing else can be read that starts there: no operator word, truth word, PCD name or wide string. Anywhere
+ *     else, and in the new edition everywhere, no token can be read at such a word: 3
+ *   - !ifdef and !ifndef take $(NAME) as well as NAME. In the new edition $(NAME) is refused with 22
+ * Whatever the new edition accepts, the old one accepts with the same answer.
  */
 #ifndef KORZHINAY_H
 #define KORZHINAY_H
@@ -31,11 +39,12 @@
 extern "C" {
 #endif
 
-/* The version of this header, and of the library and the command that come with it. The shared library's name ends with the major one. */
+/* The version of this header, and of the library and the command that come with it. The shared library's name ends with the major number
+ * and, while that is 0, with the minor one too, as libkorzhinay.so.0.2: a program finds only a library with the calls it was made for. */
 #define KORZHINAY_VERSION_MAJOR 0
-#define KORZHINAY_VERSION_MINOR 1
+#define KORZHINAY_VERSION_MINOR 2
 #define KORZHINAY_VERSION_PATCH 0
-#define KORZHINAY_VERSION "0.1.0"
+#define KORZHINAY_VERSION "0.2.0"
 
 /* The limits. The refusal of what is past a limit is beside it. */
 #define KORZHINAY_RECORD_BYTES 128          /* of each record of a table, no more and no less: 1 */
@@ -87,6 +96,12 @@ enum korzhinay_refusal {
     KORZHINAY_REFUSAL_BUFFER_SHORT = 26
 };
 
+/* The editions of the language, as the dialect of a call. */
+enum korzhinay_dialect {
+    KORZHINAY_EDITION_NEW = 0,
+    KORZHINAY_EDITION_OLD = 1
+};
+
 /* Whether a table of settings is well formed: 0, or the refusal number 1.
  * A table is 0 to 512 records of 128 bytes and nothing else, the 64 bytes of their names strictly ascending. A record:
  *   0 to 63    the name, then zeros, of which a name of 64 bytes has none. A macro's name is A-Z, then A-Z, 0-9 and _; a PCD's is two
@@ -117,9 +132,9 @@ uint8_t korzhinay_lookup(const uint8_t *table, size_t table_len, const uint8_t *
  * The arrays hold of each token that was read: its code, one of enum korzhinay_code; its start, counted from 0; its length in bytes, quotes
  * and `L`, or `$(` and `)`, included; and the value of a number literal or a truth word (0 for any other). Entries from out[1] on stay as
  * they were. */
-void korzhinay_tokens(const uint8_t *expression, size_t expression_len, uint64_t out[3], uint8_t codes[KORZHINAY_MAX_TOKENS],
-                      uint16_t starts[KORZHINAY_MAX_TOKENS], uint16_t lens[KORZHINAY_MAX_TOKENS],
-                      uint64_t values[KORZHINAY_MAX_TOKENS]);
+void korzhinay_tokens(const uint8_t *expression, size_t expression_len, uint8_t dialect, uint64_t out[3],
+                      uint8_t codes[KORZHINAY_MAX_TOKENS], uint16_t starts[KORZHINAY_MAX_TOKENS],
+                      uint16_t lens[KORZHINAY_MAX_TOKENS], uint64_t values[KORZHINAY_MAX_TOKENS]);
 
 /* The codes of tokens. */
 enum korzhinay_code {
@@ -129,6 +144,7 @@ enum korzhinay_code {
     KORZHINAY_WIDE = 3,
     KORZHINAY_MACRO = 4,
     KORZHINAY_PCD = 5,
+    KORZHINAY_BARE = 6,           /* a bare word, in the old edition only */
     KORZHINAY_OPEN = 10,
     KORZHINAY_CLOSE = 11,
     KORZHINAY_QUESTION = 12,
@@ -180,7 +196,7 @@ enum korzhinay_code {
  *   11  a result is below 0 or above 2^64 - 1; a left shift pushes a one out of the 64 bits
  *   12  zero divisor, of / or % */
 uint8_t korzhinay_evaluate(const uint8_t *expression, size_t expression_len, const uint8_t *table, size_t table_len,
-                           uint64_t out[7]);
+                           uint8_t dialect, uint64_t out[7]);
 
 /* The kinds of a value. */
 enum korzhinay_kind {
@@ -208,7 +224,7 @@ enum korzhinay_memory {
  *   25  the number is too large for the datum; for BOOLEAN it is above 1
  *   26  buffer is shorter than the field */
 uint8_t korzhinay_field(uint8_t *buffer, size_t buffer_len, const uint8_t *expression, size_t expression_len,
-                        const uint8_t *table, size_t table_len, uint8_t datum, uint64_t out[2]);
+                        const uint8_t *table, size_t table_len, uint8_t datum, uint8_t dialect, uint64_t out[2]);
 
 /* The datum codes of a field. */
 enum korzhinay_datum {
@@ -246,15 +262,15 @@ enum korzhinay_datum {
  *       in a dropped branch too
  *   20  a 17th !if, !ifdef or !ifndef while 16 are open, in a dropped branch too
  *   22  what follows a word that is read is not what it takes: no blank directly after !if, !ifdef, !ifndef, !elseif or !elif;
- *       anything except one macro, as NAME or $(NAME), after !ifdef or !ifndef; anything at all after !else or !endif; blanks and a
- *       comment are allowed
+ *       anything except one macro, as NAME or, in the old edition, $(NAME), after !ifdef or !ifndef; anything at all after !else or
+ *       !endif; blanks and a comment are allowed
  *   3 to 12  an expression that is read, as korzhinay_evaluate refuses it; but never 8, since `|` and `||` need no parentheses in
  *       directives: 9 to 12 are checked then; and never 2, since a line is too short for it
  *   13  the value of an expression that is read is neither the number 0 nor the number 1
  * and after the last line:
  *   21  an !if, !ifdef or !ifndef is still open; the line is that of the innermost one */
 uint8_t korzhinay_select(uint8_t *marks, size_t marks_len, const uint8_t *file, size_t file_len, const uint8_t *table,
-                         size_t table_len, uint64_t out[4]);
+                         size_t table_len, uint8_t dialect, uint64_t out[4]);
 
 /* The marks of lines. A directive is read if the outcome depends on it: if the branch around its group is taken or there is none and, for
  * !elseif and !elif, if no earlier branch of its group was taken. */

@@ -1,4 +1,5 @@
-"""The shared library's calls, for the vectors and the tables of the manual."""
+"""The shared library's calls, for the vectors and the tables of the manual. Every call that reads an expression or a file takes a dialect;
+without one it is the old edition, as with the command."""
 import ctypes
 import os
 
@@ -10,6 +11,10 @@ LIB.korzhinay_evaluate.restype = ctypes.c_uint8
 LIB.korzhinay_field.restype = ctypes.c_uint8
 LIB.korzhinay_select.restype = ctypes.c_uint8
 SIZE = ctypes.c_size_t
+BYTE = ctypes.c_uint8
+
+# The editions, as dialects.
+NEW, OLD = 0, 1
 
 # What is in a lent array before a call: entries that a call must not write have to keep it.
 CODE, START, LENGTH, VALUE = 0xA5, 0xA5A5, 0x5A5A, 0xA5A5A5A5A5A5A5A5
@@ -40,14 +45,14 @@ def lookup(data, name):
     return refusal, taken_back(out)
 
 
-def tokens(expression):
+def tokens(expression, dialect=OLD):
     """The refusal's number (0: none) and offset, and the tokens that were read, each (code, start, length, value)."""
     out = numbers(3)
     codes = (ctypes.c_uint8 * 200)(*[CODE] * 200)
     starts = (ctypes.c_uint16 * 200)(*[START] * 200)
     lens = (ctypes.c_uint16 * 200)(*[LENGTH] * 200)
     values = (ctypes.c_uint64 * 200)(*[VALUE] * 200)
-    LIB.korzhinay_tokens(expression, SIZE(len(expression)), out, codes, starts, lens, values)
+    LIB.korzhinay_tokens(expression, SIZE(len(expression)), BYTE(dialect), out, codes, starts, lens, values)
     number, count, offset = taken_back(out)
     for i in range(count, 200):
         if (codes[i], starts[i], lens[i], values[i]) != (CODE, START, LENGTH, VALUE):
@@ -55,10 +60,10 @@ def tokens(expression):
     return number, offset, [(codes[i], starts[i], lens[i], values[i]) for i in range(count)]
 
 
-def evaluate(expression, table):
+def evaluate(expression, table, dialect=OLD):
     """The refusal's number (0: none) and offset, and the six numbers of the answer."""
     out = numbers(7)
-    refusal = LIB.korzhinay_evaluate(expression, SIZE(len(expression)), table, SIZE(len(table)), out)
+    refusal = LIB.korzhinay_evaluate(expression, SIZE(len(expression)), table, SIZE(len(table)), BYTE(dialect), out)
     *answer, offset = taken_back(out)
     return refusal, offset, tuple(answer)
 
@@ -68,13 +73,13 @@ def untouched(length):
     return bytes(1 + 7 * i % 251 for i in range(length))
 
 
-def field(expression, table, datum, room):
+def field(expression, table, datum, room, dialect=OLD):
     """The refusal's number (0: none) and offset, the length of the field and every byte of the buffer; those after it must stay."""
     before = untouched(room + 16)
     buffer = (ctypes.c_uint8 * (room + 16))(*before)
     out = numbers(2)
     refusal = LIB.korzhinay_field(
-        buffer, SIZE(room), expression, SIZE(len(expression)), table, SIZE(len(table)), ctypes.c_uint8(datum), out
+        buffer, SIZE(room), expression, SIZE(len(expression)), table, SIZE(len(table)), BYTE(datum), BYTE(dialect), out
     )
     after = bytes(buffer)
     if after[room:] != before[room:]:
@@ -88,13 +93,13 @@ def unmarked(length):
     return bytes(6 + 7 * i % 241 for i in range(length))
 
 
-def select(file, table, room):
+def select(file, table, room, dialect=OLD):
     """The refusal's number (0: none), line and offset, how many lines and operators there are, and every byte of the marks; those after it
     must stay."""
     before = unmarked(room + 16)
     marks = (ctypes.c_uint8 * (room + 16)).from_buffer_copy(before)
     out = numbers(4)
-    refusal = LIB.korzhinay_select(marks, SIZE(room), file, SIZE(len(file)), table, SIZE(len(table)), out)
+    refusal = LIB.korzhinay_select(marks, SIZE(room), file, SIZE(len(file)), table, SIZE(len(table)), BYTE(dialect), out)
     after = bytes(marks)
     if after[room:] != before[room:]:
         raise AssertionError("bytes past the marks were written")

@@ -2,6 +2,7 @@
 
 use std::hint::black_box;
 
+use crate::edition::{DIALECT, EDITION};
 use crate::expressions;
 use crate::settings;
 use crate::timing::{compare, compare_in, ROUNDS};
@@ -77,7 +78,7 @@ fn time_small(of: &str, rounds: usize, small: &[String], table: &[u8]) {
 
 fn answer(text: &str, table: &[u8]) -> (u8, [u64; 7]) {
     let mut out = [0; 7];
-    let refusal = bindings::evaluate(text.as_bytes(), table, &mut out);
+    let refusal = bindings::evaluate(text.as_bytes(), table, DIALECT, &mut out);
     (refusal, out)
 }
 
@@ -86,12 +87,12 @@ fn proved(text: &str, table: &[u8]) {
 }
 
 fn oracle(text: &str, table: &[u8]) {
-    let _ = black_box(oracle::evaluate(text.as_bytes(), table));
+    let _ = black_box(oracle::evaluate(text.as_bytes(), table, EDITION));
 }
 
 /// Checks that an expression has a value, with the same count on both sides.
 fn check(text: &str, table: &[u8]) {
     let (refusal, [_, _, count, ..]) = answer(text, table);
-    let other = oracle::evaluate(text.as_bytes(), table).map(|outcome| outcome.count);
+    let other = oracle::evaluate(text.as_bytes(), table, EDITION).map(|outcome| outcome.count);
     assert!(refusal == 0 && other == Ok(count), "{text}");
 }

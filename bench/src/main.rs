@@ -3,6 +3,7 @@
 
 #![forbid(unsafe_code)]
 
+mod edition;
 mod evaluation;
 mod expressions;
 mod files;

@@ -6,6 +6,7 @@ use std::time::Duration;
 
 use bindings::limit::{MAX_LINES, RECORD_BYTES};
 
+use crate::edition::{DIALECT, EDITION};
 use crate::files;
 use crate::settings;
 use crate::timing::{compare, ratio};
@@ -70,20 +71,20 @@ fn time_one(file: &str, table: &[u8]) -> (Duration, Duration) {
             black_box(proved(file, table, &mut marks));
         },
         || {
-            let _ = black_box(oracle::select(file, table, &mut others));
+            let _ = black_box(oracle::select(file, table, EDITION, &mut others));
         },
     )
 }
 
 fn proved(file: &[u8], table: &[u8], marks: &mut [u8]) -> (u8, [u64; 4]) {
     let mut out = [0; 4];
-    let refusal = bindings::select(marks, file, table, &mut out);
+    let refusal = bindings::select(marks, file, table, DIALECT, &mut out);
     (refusal, out)
 }
 
 /// Checks that the file is accepted, with the same marks and count on both sides.
 fn check(file: &[u8], table: &[u8], marks: &mut [u8], others: &mut [u8]) {
     let (refusal, [_, lines, count, _]) = proved(file, table, marks);
-    let other = oracle::select(file, table, others);
+    let other = oracle::select(file, table, EDITION, others);
     assert!(refusal == 0 && other == Ok((lines as usize, count)) && marks == others);
 }

@@ -6,6 +6,7 @@ use std::hint::black_box;
 use bindings::limit::MAX_TOKENS;
 use oracle::{Scan, Token};
 
+use crate::edition::{DIALECT, EDITION};
 use crate::expressions;
 use crate::timing::compare;
 
@@ -38,14 +39,14 @@ pub fn time() {
         || {
             small
                 .iter()
-                .for_each(|text| drop(black_box(oracle::scan(text.as_bytes()))))
+                .for_each(|text| drop(black_box(oracle::scan(text.as_bytes(), EDITION))))
         },
     );
     compare(
         "tokens of a long expression (682 bytes)",
         1,
         || lent.scan(&long),
-        || drop(black_box(oracle::scan(long.as_bytes()))),
+        || drop(black_box(oracle::scan(long.as_bytes(), EDITION))),
     );
 }
 
@@ -74,6 +75,7 @@ impl Lent {
     fn scan(&mut self, text: &str) {
         bindings::tokens(
             text.as_bytes(),
+            DIALECT,
             &mut self.out,
             &mut self.codes,
             &mut self.starts,
@@ -98,7 +100,7 @@ impl Lent {
             refusal: None,
         };
         assert!(
-            refusal == 0 && read == oracle::scan(text.as_bytes()),
+            refusal == 0 && read == oracle::scan(text.as_bytes(), EDITION),
             "{text}"
         );
     }

@@ -1,5 +1,6 @@
 //! The C functions with slices and references for pointers. A slice is valid for its length, an array for its own, and what is
-//! borrowed to be written overlaps nothing else: that is all that the C functions need, the stack apart, whose end Rust guards.
+//! borrowed to be written overlaps nothing else: that is all that the C functions need, the stack apart, whose end Rust guards. A dialect
+//! is one of [`crate::edition`].
 
 use crate::limit::MAX_TOKENS;
 use crate::raw;
@@ -31,6 +32,7 @@ pub fn lookup(table: &[u8], name: &[u8], out: &mut [u64; 3]) -> u8 {
 #[inline]
 pub fn tokens(
     expression: &[u8],
+    dialect: u8,
     out: &mut [u64; 3],
     codes: &mut [u8; MAX_TOKENS],
     starts: &mut [u16; MAX_TOKENS],
@@ -43,6 +45,7 @@ pub fn tokens(
         raw::korzhinay_tokens(
             expression.as_ptr(),
             expression.len(),
+            dialect,
             out.as_mut_ptr(),
             codes.as_mut_ptr(),
             starts.as_mut_ptr(),
@@ -55,7 +58,7 @@ pub fn tokens(
 /// The value of an expression under a table: 0 or the refusal number, and kind, number, count of operators, memory, start, length and
 /// the refusal's offset.
 #[inline]
-pub fn evaluate(expression: &[u8], table: &[u8], out: &mut [u64; 7]) -> u8 {
+pub fn evaluate(expression: &[u8], table: &[u8], dialect: u8, out: &mut [u64; 7]) -> u8 {
     // SAFETY: the call reads two slices by their lengths and writes the 7 numbers of `out`, which is borrowed alone.
     unsafe {
         raw::korzhinay_evaluate(
@@ -63,6 +66,7 @@ pub fn evaluate(expression: &[u8], table: &[u8], out: &mut [u64; 7]) -> u8 {
             expression.len(),
             table.as_ptr(),
             table.len(),
+            dialect,
             out.as_mut_ptr(),
         )
     }
@@ -75,6 +79,7 @@ pub fn field(
     expression: &[u8],
     table: &[u8],
     datum: u8,
+    dialect: u8,
     out: &mut [u64; 2],
 ) -> u8 {
     // SAFETY: the call reads two slices by their lengths, and writes within the buffer by its length and the 2 numbers of `out`; both
@@ -88,6 +93,7 @@ pub fn field(
             table.as_ptr(),
             table.len(),
             datum,
+            dialect,
             out.as_mut_ptr(),
         )
     }
@@ -96,7 +102,7 @@ pub fn field(
 /// The marks of the lines of a file: 0 or the refusal number, and the refusal's line, the number of lines, the count of operators and
 /// the refusal's offset in its line.
 #[inline]
-pub fn select(marks: &mut [u8], file: &[u8], table: &[u8], out: &mut [u64; 4]) -> u8 {
+pub fn select(marks: &mut [u8], file: &[u8], table: &[u8], dialect: u8, out: &mut [u64; 4]) -> u8 {
     // SAFETY: the call reads two slices by their lengths, and writes within the marks by their length and the 4 numbers of `out`;
     // both are borrowed alone.
     unsafe {
@@ -107,6 +113,7 @@ pub fn select(marks: &mut [u8], file: &[u8], table: &[u8], out: &mut [u64; 4]) -
             file.len(),
             table.as_ptr(),
             table.len(),
+            dialect,
             out.as_mut_ptr(),
         )
     }

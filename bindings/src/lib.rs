@@ -6,6 +6,7 @@
 
 mod calls;
 pub mod datum;
+pub mod edition;
 pub mod kind;
 pub mod limit;
 pub mod mark;

@@ -28,6 +28,7 @@ extern "C" {
     pub fn korzhinay_tokens(
         expression: *const u8,
         expression_len: usize,
+        dialect: u8,
         out: *mut u64,
         codes: *mut u8,
         starts: *mut u16,
@@ -41,6 +42,7 @@ extern "C" {
         expression_len: usize,
         table: *const u8,
         table_len: usize,
+        dialect: u8,
         out: *mut u64,
     ) -> u8;
 
@@ -53,6 +55,7 @@ extern "C" {
         table: *const u8,
         table_len: usize,
         datum: u8,
+        dialect: u8,
         out: *mut u64,
     ) -> u8;
 
@@ -64,6 +67,7 @@ extern "C" {
         file_len: usize,
         table: *const u8,
         table_len: usize,
+        dialect: u8,
         out: *mut u64,
     ) -> u8;
 }

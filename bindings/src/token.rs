@@ -6,6 +6,8 @@ pub const STRING: u8 = 2;
 pub const WIDE: u8 = 3;
 pub const MACRO: u8 = 4;
 pub const PCD: u8 = 5;
+/// A bare word, in the old edition only.
+pub const BARE: u8 = 6;
 pub const OPEN: u8 = 10;
 pub const CLOSE: u8 = 11;
 pub const QUESTION: u8 = 12;

@@ -6,6 +6,7 @@ use std::collections::BTreeMap;
 const HEADER: &str = include_str!("../../include/korzhinay.h");
 const RAW: &str = include_str!("../src/raw.rs");
 const REFUSAL: &str = include_str!("../src/refusal.rs");
+const EDITION: &str = include_str!("../src/edition.rs");
 const LIMIT: &str = include_str!("../src/limit.rs");
 /// Where the proved code has the numbers of refusals.
 const UNITS: &str = include_str!("../../crates/units/src/lib.rt");
@@ -52,6 +53,7 @@ fn codes_agree() {
         ("kind", "KORZHINAY_KIND_", include_str!("../src/kind.rs")),
         ("memory", "KORZHINAY_IN_", include_str!("../src/memory.rs")),
         ("datum", "KORZHINAY_DATUM_", include_str!("../src/datum.rs")),
+        ("dialect", "KORZHINAY_EDITION_", EDITION),
         ("mark", "KORZHINAY_MARK_", include_str!("../src/mark.rs")),
         ("refusal", "KORZHINAY_REFUSAL_", REFUSAL),
     ] {

@@ -1,7 +1,7 @@
 //! The limits are the library's: what is at a limit is not refused for it, and what is one past it is.
 
 use bindings::limit::*;
-use bindings::{datum, evaluate, field, kind, lookup, refusal, select, table};
+use bindings::{datum, edition, evaluate, field, kind, lookup, refusal, select, table};
 
 /// A record with a string; its content may be longer than a record has room for.
 fn record(name: &[u8], content: &[u8]) -> Vec<u8> {
@@ -50,7 +50,7 @@ fn bytes_of_a_name() {
 
 /// The refusal of an expression. Blanks, plus signs and open parentheses alone form none.
 fn refused(byte: u8, count: usize) -> u8 {
-    evaluate(&vec![byte; count], b"", &mut [0; 7])
+    evaluate(&vec![byte; count], b"", edition::OLD, &mut [0; 7])
 }
 
 #[test]
@@ -77,6 +77,7 @@ fn bytes_of_a_field() {
             expression.as_bytes(),
             b"",
             datum::VOID,
+            edition::OLD,
             &mut out,
         )
     };
@@ -106,7 +107,13 @@ fn groups_of_depth(depth: usize) -> Vec<u8> {
 }
 
 fn selected(file: &[u8]) -> u8 {
-    select(&mut [0; MAX_LINES + 1], file, b"", &mut [0; 4])
+    select(
+        &mut [0; MAX_LINES + 1],
+        file,
+        b"",
+        edition::OLD,
+        &mut [0; 4],
+    )
 }
 
 #[test]

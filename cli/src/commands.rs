@@ -1,10 +1,12 @@
 //! The subcommands: what each takes, what --help prints of it, and what it does.
 
 pub mod datum;
+pub mod edition;
 mod eval;
 mod field;
 mod help;
 mod names;
+mod noted;
 pub mod options;
 mod output;
 mod request;

@@ -1,6 +1,7 @@
 //! Description files, as far as the command looks into them itself: for notes, names and messages, never for a decision. What a line is,
 //! whether it is read, what a token is and what is set, the library says.
 
+mod bare;
 mod bytes;
 mod directive;
 mod hidden;
@@ -9,6 +10,7 @@ mod plain;
 mod quoted;
 mod runs;
 
+pub use bare::{bare_words, bare_words_of_line};
 pub use bytes::{oddities, Oddity, Oddness, BYTE_ORDER_MARK};
 pub use directive::{directive, first_byte};
 pub use hidden::hidden_directive;

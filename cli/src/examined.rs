@@ -1,7 +1,7 @@
 //! A description file that the library has judged.
 
 use crate::description::{mentions, Mention};
-use crate::library::{self, mark, Selection};
+use crate::library::{self, mark, Selection, Terms};
 use crate::refusals::of_file;
 use crate::terminal::{escaped, lines, read, without_end, Error, Refused};
 
@@ -13,19 +13,19 @@ pub struct Examined<'a> {
 }
 
 impl<'a> Examined<'a> {
-    /// Reads files and selects their lines under a table.
-    pub fn all(names: &[&'a [u8]], table: &[u8]) -> Result<Vec<Examined<'a>>, Error> {
+    /// Reads files and selects their lines.
+    pub fn all(names: &[&'a [u8]], terms: Terms) -> Result<Vec<Examined<'a>>, Error> {
         let mut files = Vec::new();
         for name in names {
-            files.push(Examined::read(name, table)?);
+            files.push(Examined::read(name, terms)?);
         }
         Ok(files)
     }
 
-    fn read(name: &'a [u8], table: &[u8]) -> Result<Examined<'a>, Error> {
+    fn read(name: &'a [u8], terms: Terms) -> Result<Examined<'a>, Error> {
         let bytes = read(name)?;
-        let outcome = library::select(&bytes, table);
-        let outcome = outcome.map_err(|refusal| of_file(name, &bytes, table, &refusal));
+        let outcome = library::select(&bytes, terms);
+        let outcome = outcome.map_err(|refusal| of_file(name, &bytes, terms, &refusal));
         let here = lines(&bytes).count();
         let there = outcome.as_ref().map_or(here, |found| found.marks.len());
         if here != there {

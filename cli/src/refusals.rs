@@ -12,6 +12,7 @@ mod grammar;
 mod groups;
 mod kinds;
 mod meanings;
+mod meant;
 mod message;
 mod names;
 mod operands;
@@ -19,7 +20,7 @@ mod results;
 mod table;
 mod values;
 
-pub use expression::of_expression;
+pub use expression::{of_expression, NAME as EXPRESSION};
 pub use field::of_field;
 pub use file::of_file;
 pub use table::of_table;

@@ -4,13 +4,14 @@
     field       the bytes of a PCD data field           check_table  whether bytes are a table of settings
     select      the lines of a file that are kept       Table        a table of settings
 
-A refusal by the rules is always the exception `Refused`. `korzhinay.limits` has the limits. Loading the library may raise an ImportError,
-which says where it was looked for; the environment variable KORZHINAY_LIBRARY can name it.
+`Edition` names the edition of the language that a call takes. A refusal by the rules is always the exception `Refused`. `korzhinay.limits`
+has the limits. Loading the library may raise an ImportError, which says where it was looked for; the environment variable KORZHINAY_LIBRARY
+can name it.
 """
 
 from . import limits
 from .calls import check_table, evaluate, field, select, tokens
-from .codes import Code, Datum, Kind, Mark
+from .codes import Code, Datum, Edition, Kind, Mark
 from .content import Content, ContentLike, Wide
 from .refusal import MEANINGS, Refused
 from .selection import Selection
@@ -19,7 +20,7 @@ from .text import Text
 from .token import Token
 from .value import Value
 
-__version__ = "0.1.0"
+__version__ = "0.2.0"
 
 __all__ = [
     "MEANINGS",
@@ -27,6 +28,7 @@ __all__ = [
     "Content",
     "ContentLike",
     "Datum",
+    "Edition",
     "Kind",
     "Mark",
     "Refused",

@@ -5,6 +5,13 @@ from __future__ import annotations
 from enum import IntEnum
 
 
+class Edition(IntEnum):
+    """The editions of the language. Whatever the new one accepts, the old one accepts with the same answer."""
+
+    NEW = 0
+    OLD = 1  # with bare words after == != EQ NE, and with `$(NAME)` after !ifdef and !ifndef
+
+
 class Kind(IntEnum):
     """The kinds of a value."""
 
@@ -22,6 +29,7 @@ class Code(IntEnum):
     WIDE = 3
     MACRO = 4
     PCD = 5
+    BARE = 6  # a bare word, in the old edition only
     OPEN = 10
     CLOSE = 11
     QUESTION = 12

@@ -12,7 +12,8 @@ VARIABLE: Final = "KORZHINAY_LIBRARY"
 """The environment variable that may name the library."""
 
 BUILT: Final = Path("target", "libkorzhinay.so")
-INSTALLED: Final = ("libkorzhinay.so.0", "libkorzhinay.so")
+INSTALLED: Final = "libkorzhinay.so.0.2"
+"""The name that an installed library has for this version of the calls. One of another name may take other arguments."""
 
 
 def places(environment: Mapping[str, str], package: Path) -> List[str]:
@@ -23,8 +24,8 @@ def places(environment: Mapping[str, str], package: Path) -> List[str]:
         return [named]
     root = package.parent.parent
     if (root / "include" / "korzhinay.h").is_file():
-        return [str(root / BUILT), *INSTALLED]
-    return list(INSTALLED)
+        return [str(root / BUILT), INSTALLED]
+    return [INSTALLED]
 
 
 def load(paths: Iterable[str]) -> ctypes.CDLL:

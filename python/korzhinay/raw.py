@@ -1,4 +1,4 @@
-"""The C calls: bytes in, numbers out, a refusal as its number. Every array that a call writes comes from `lend`."""
+"""The C calls: bytes in, numbers out, a refusal as its number. Every array that a call writes comes from `lend`. A dialect is a byte."""
 
 from __future__ import annotations
 
@@ -37,34 +37,34 @@ def lookup(records: bytes, name: bytes) -> Tuple[int, int, int, int]:
     return refusal, kind, number, length
 
 
-def tokens(expression: bytes) -> Tuple[int, int, List[Tuple[int, int, int, int]]]:
+def tokens(expression: bytes, dialect: int) -> Tuple[int, int, List[Tuple[int, int, int, int]]]:
     """The refusal, 0 for none, and its offset; code, start, length and value of each token that was read."""
     out = lend(c_uint64 * 3)
     codes, starts = lend(c_uint8 * MAX_TOKENS), lend(c_uint16 * MAX_TOKENS)
     lengths, values = lend(c_uint16 * MAX_TOKENS), lend(c_uint64 * MAX_TOKENS)
-    LIBRARY.korzhinay_tokens(expression, len(expression), out, codes, starts, lengths, values)
+    LIBRARY.korzhinay_tokens(expression, len(expression), dialect, out, codes, starts, lengths, values)
     refusal, count, offset = out
     return refusal, offset, list(zip(codes[:count], starts[:count], lengths[:count], values[:count]))
 
 
-def evaluate(expression: bytes, records: bytes) -> Tuple[int, ...]:
+def evaluate(expression: bytes, records: bytes, dialect: int) -> Tuple[int, ...]:
     """The refusal, 0 for none; kind, number, count of operators, memory, start, length and the refusal's offset."""
     out = lend(c_uint64 * 7)
-    refusal: int = LIBRARY.korzhinay_evaluate(expression, len(expression), records, len(records), out)
+    refusal: int = LIBRARY.korzhinay_evaluate(expression, len(expression), records, len(records), dialect, out)
     return (refusal, *out)
 
 
-def field(room: int, expression: bytes, records: bytes, datum: int) -> Tuple[int, int, bytes]:
+def field(room: int, expression: bytes, records: bytes, datum: int, dialect: int) -> Tuple[int, int, bytes]:
     """The refusal, 0 for none, and its offset; the bytes of the field, of which there are none with a refusal."""
     buffer, out = lend(c_uint8 * room), lend(c_uint64 * 2)
-    refusal: int = LIBRARY.korzhinay_field(buffer, room, expression, len(expression), records, len(records), datum, out)
+    refusal: int = LIBRARY.korzhinay_field(buffer, room, expression, len(expression), records, len(records), datum, dialect, out)
     length, offset = out
     return refusal, offset, bytes(buffer[:length])
 
 
-def select(room: int, file: bytes, records: bytes) -> Tuple[int, int, int, int, bytes]:
+def select(room: int, file: bytes, records: bytes, dialect: int) -> Tuple[int, int, int, int, bytes]:
     """The refusal, 0 for none, its line and its offset; the count of operators and the marks, of which there are none with a refusal."""
     marks, out = lend(c_uint8 * room), lend(c_uint64 * 4)
-    refusal: int = LIBRARY.korzhinay_select(marks, room, file, len(file), records, len(records), out)
+    refusal: int = LIBRARY.korzhinay_select(marks, room, file, len(file), records, len(records), dialect, out)
     line, lines, operators, offset = out
     return refusal, line, offset, operators, bytes(marks[:lines])

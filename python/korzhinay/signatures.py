@@ -18,14 +18,15 @@ SIGNATURES: Final[Mapping[str, Sequence[Any]]] = {
         None,
         READ,
         c_size_t,
+        c_uint8,
         c_uint64 * 3,
         c_uint8 * MAX_TOKENS,
         c_uint16 * MAX_TOKENS,
         c_uint16 * MAX_TOKENS,
         c_uint64 * MAX_TOKENS,
     ),
-    "korzhinay_evaluate": (c_uint8, READ, c_size_t, READ, c_size_t, c_uint64 * 7),
-    "korzhinay_field": (c_uint8, LENT, c_size_t, READ, c_size_t, READ, c_size_t, c_uint8, c_uint64 * 2),
-    "korzhinay_select": (c_uint8, LENT, c_size_t, READ, c_size_t, READ, c_size_t, c_uint64 * 4),
+    "korzhinay_evaluate": (c_uint8, READ, c_size_t, READ, c_size_t, c_uint8, c_uint64 * 7),
+    "korzhinay_field": (c_uint8, LENT, c_size_t, READ, c_size_t, READ, c_size_t, c_uint8, c_uint8, c_uint64 * 2),
+    "korzhinay_select": (c_uint8, LENT, c_size_t, READ, c_size_t, READ, c_size_t, c_uint8, c_uint64 * 4),
 }
 """Of each function its result and its parameters. An array of another length than the declared one is a TypeError of ctypes."""

@@ -3,16 +3,22 @@
 from __future__ import annotations
 
 import random
-from typing import Any, Iterator, List, Tuple
+from typing import Any, Dict, Iterator, List, Tuple
 
-from korzhinay import Table, Wide, check_table, evaluate, field, select, tokens
+from korzhinay import Edition, Table, Wide, check_table, evaluate, field, select, tokens
+
+# A call, its arguments, and those with names.
+Call = Tuple[Any, List[Any], Dict[str, Any]]
 
 TABLE = Table({"A": 1, "S": b"a", "W": Wide(b"c"), "g.P": 2**64 - 1})
 
 OPERANDS = b"0 1 1 2 7 0xFF TRUE $(A) $(A) $(NOPE) $(S) $(W) g.P g.Missing 'a' L'c'".split()
 OPERATORS = b"+ - * / % << >> < <= == != & ^ | && || AND OR XOR LE ? :".split()
-PIECES = OPERANDS + OPERATORS + b"( ) ! ~ NOT # @ 0x 99999999999999999999".split()
+# Bare words, and words that are none, after the operators that take them.
+COMPARED, WORDS = b"== != EQ NE".split(), b"a _b L AND TRUE".split()
+PIECES = OPERANDS + OPERATORS + b"( ) ! ~ NOT # @ 0x 99999999999999999999 a == a L' foo.1".split()
 DIRECTIVES = b"!if 1,!if 0,!if $(A),!ifdef A,!ifndef A,!elseif 1,!elif 0,!else,!endif,!endif,plain,".split(b",")
+DIRECTIVES += b"!ifdef $(A),!if $(S) == a,!endif".split(b",")
 LINES = DIRECTIVES + b"!include x,!error,\xff\0,!if 1 / 0,!if 2,!iff,!else x,  !endif # x".split(b",")
 
 
@@ -44,6 +50,7 @@ class Inputs:
         parts = [self.formula(self.draw.randrange(depth)) for _ in range(3)]
         operator = self.draw.choice(OPERATORS[:-2])
         forms = [b"%s %s %s" % (parts[0], operator, parts[1]), b"(%s %s %s)" % (parts[0], operator, parts[1]), b"!%s" % parts[0]]
+        forms.append(b"($(S) %s %s)" % (self.draw.choice(COMPARED), self.draw.choice(WORDS)))
         return self.draw.choice(forms + [b"(%s ? %s : %s)" % tuple(parts)])
 
     def expression(self) -> bytes:
@@ -63,22 +70,22 @@ class Inputs:
     def table(self) -> bytes:
         return self.draw.choice([bytes(TABLE)] * 4 + [self.damaged(bytes(TABLE)), self.any_bytes(300)])
 
-    def call(self) -> Tuple[Any, ...]:
-        """A call and its arguments."""
-        return self.draw.choice(
-            [
-                (tokens, self.expression()),
-                (evaluate, self.expression(), self.table()),
-                (field, self.expression(), self.draw.randrange(-2, 8), self.table()),
-                (select, self.file(), self.table()),
-                (check_table, self.table()),
-                (Table.from_bytes, self.table()),
-                (TABLE.lookup, self.expression()),
-            ]
-        )
+    def call(self) -> Call:
+        """A call, its arguments and, if it takes one, an edition."""
+        edition = {"edition": self.draw.choice(list(Edition))}
+        made: List[Call] = [
+            (tokens, [self.expression()], edition),
+            (evaluate, [self.expression(), self.table()], edition),
+            (field, [self.expression(), self.draw.randrange(-2, 8), self.table()], edition),
+            (select, [self.file(), self.table()], edition),
+            (check_table, [self.table()], {}),
+            (Table.from_bytes, [self.table()], {}),
+            (TABLE.lookup, [self.expression()], {}),
+        ]
+        return self.draw.choice(made)
 
 
-def calls(seed: int, count: int) -> Iterator[Tuple[Any, ...]]:
+def calls(seed: int, count: int) -> Iterator[Call]:
     """This many calls with their arguments."""
     inputs = Inputs(seed)
     return (inputs.call() for _ in range(count))

@@ -5,7 +5,7 @@ from __future__ import annotations
 import unittest
 from ctypes import c_uint8, c_uint64
 
-from korzhinay import Datum, Refused, Table, evaluate, field, raw, select, tokens
+from korzhinay import Datum, Edition, Refused, Table, evaluate, field, raw, select, tokens
 
 from .guards import guarded
 from .outcome import outcome
@@ -22,10 +22,20 @@ class Guarded(unittest.TestCase):
             self.assertEqual(outcome(field, "1", Datum.UINT8, room=0), (26, 0, 0))
             self.assertEqual(select(b"\n" * 4096).lines, 4096)
             self.assertEqual(outcome(select, b"\n" * 4097), (15, 0, 0))
-            self.assertEqual(raw.select(0, b"\n", b"")[0], 16)
+            self.assertEqual(raw.select(0, b"\n", b"", Edition.OLD)[0], 16)
             self.assertEqual(evaluate("$(A)", Table(A="x")).string, b"x")
             # Five arrays for each scan of tokens, two for each field and each selection, one for a record and one for a value.
             self.assertEqual(len(guards.lent), 2 * 5 + 6 * 2 + 2)
+
+    def test_bare_words_at_the_limits(self) -> None:
+        longest, last = "==" + "x" * 1022, "-" * 198 + "==x"
+        with guarded():
+            self.assertEqual([token.length for token in tokens(longest)], [2, 1022])
+            self.assertEqual(outcome(tokens, longest, edition=Edition.NEW), (3, 0, 2))
+            self.assertEqual(len(tokens(last)), 200)
+            self.assertEqual(outcome(tokens, last, edition=Edition.NEW), (3, 0, 200))
+            self.assertEqual(field("'' != " + "x" * 1018, Datum.BOOLEAN), b"\1")
+            self.assertEqual(select(b"!if '' != %s\n!endif" % (b"x" * 1014)).marks, b"\4\5")
 
     def test_a_malformed_table_writes_nothing_that_is_read(self) -> None:
         with guarded():

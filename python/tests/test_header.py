@@ -4,13 +4,15 @@ from __future__ import annotations
 
 import unittest
 
-from korzhinay import MEANINGS, Code, Datum, Kind, Mark, Refused, library, limits
+from korzhinay import MEANINGS, Code, Datum, Edition, Kind, Mark, Refused, library, limits
 from korzhinay.codes import Memory
 from korzhinay.signatures import SIGNATURES
 
 from . import header
+from .checkout import ROOT
 
 ENUMS = {
+    "dialect": ("KORZHINAY_EDITION_", Edition),
     "code": ("KORZHINAY_", Code),
     "kind": ("KORZHINAY_KIND_", Kind),
     "memory": ("KORZHINAY_IN_", Memory),
@@ -53,7 +55,10 @@ class Header(unittest.TestCase):
                 self.assertRegex(header.meanings()[number], r"(^| )%s( |$)" % format(limit, ","))
 
     def test_the_name_of_the_shared_library(self) -> None:
-        self.assertEqual(library.INSTALLED[0], "libkorzhinay.so.%d" % header.constants()["VERSION_MAJOR"])
+        major, minor = (header.constants()["VERSION_" + part] for part in ("MAJOR", "MINOR"))
+        # While the first number is 0, the second one is in the name too.
+        self.assertEqual(library.INSTALLED, "libkorzhinay.so." + ("%d" % major if major else "0.%d" % minor))
+        self.assertIn("`%s`" % library.INSTALLED, (ROOT / "python" / "README.md").read_text(encoding="utf-8"))
 
     def test_limits(self) -> None:
         declared = {name: number for name, number in header.constants().items() if not name.startswith("VERSION")}

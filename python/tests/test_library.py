@@ -11,7 +11,7 @@ import unittest
 from pathlib import Path
 from typing import Tuple
 
-from korzhinay.library import load, places
+from korzhinay.library import INSTALLED, load, places
 
 from .checkout import ROOT
 
@@ -61,10 +61,16 @@ class Library(unittest.TestCase):
         self.assertRegex(said, FAULT % r"/nowhere/libkorzhinay\.so: [^\n]*")
 
     def test_the_installed_library(self) -> None:
-        self.library("libkorzhinay.so")
-        self.assertEqual(imported(self.installed, LD_LIBRARY_PATH=str(self.folder)), (0, "libkorzhinay.so 2\n"))
-        self.library("libkorzhinay.so.0")
-        self.assertEqual(imported(self.installed, LD_LIBRARY_PATH=str(self.folder)), (0, "libkorzhinay.so.0 2\n"))
+        self.library(INSTALLED)
+        self.assertEqual(imported(self.installed, LD_LIBRARY_PATH=str(self.folder)), (0, "%s 2\n" % INSTALLED))
+
+    def test_a_library_of_another_version(self) -> None:
+        # The calls of 0.1 took no dialect.
+        for name in "libkorzhinay.so", "libkorzhinay.so.0", "libkorzhinay.so.0.1.0", "libkorzhinay.so.0.3", "libkorzhinay.so.1.2":
+            self.library(name)
+        status, said = imported(self.installed, LD_LIBRARY_PATH=str(self.folder))
+        self.assertEqual(status, 1)
+        self.assertRegex(said, FAULT % (INSTALLED.replace(".", r"\.") + ": [^\n]*"))
 
     def test_a_library_without_the_calls(self) -> None:
         status, said = imported(self.installed, KORZHINAY_LIBRARY="libc.so.6")
@@ -74,10 +80,9 @@ class Library(unittest.TestCase):
 
 class Places(unittest.TestCase):
     def test_the_order(self) -> None:
-        installed = ["libkorzhinay.so.0", "libkorzhinay.so"]
-        self.assertEqual(places({}, PACKAGE), [str(BUILT), *installed])
-        self.assertEqual(places({}, Path("/usr/lib/python3/korzhinay")), installed)
-        self.assertEqual(places({}, Path("/")), installed)
+        self.assertEqual(places({}, PACKAGE), [str(BUILT), INSTALLED])
+        self.assertEqual(places({}, Path("/usr/lib/python3/korzhinay")), [INSTALLED])
+        self.assertEqual(places({}, Path("/")), [INSTALLED])
         self.assertEqual(places({"KORZHINAY_LIBRARY": "a.so"}, PACKAGE), ["a.so"])
 
     def test_the_first_that_can_be_loaded(self) -> None:

@@ -8,7 +8,7 @@ from collections import Counter
 from concurrent.futures import ThreadPoolExecutor
 from typing import Any, Dict, Tuple
 
-from korzhinay import Selection, Table, Value, Wide, check_table, evaluate, field, select, tokens
+from korzhinay import Edition, Selection, Table, Value, Wide, check_table, evaluate, field, select, tokens
 
 from .guards import guarded
 from .inputs import TABLE, calls
@@ -36,9 +36,9 @@ def is_refusal(answer: Any) -> bool:
 class Random(unittest.TestCase):
     def test_every_call_ends_in_an_answer_or_a_refusal(self) -> None:
         met: Counter[Any] = Counter()
-        for call, *given in calls(1, COUNT):
-            with self.subTest(call=call, given=given):
-                answer = outcome(call, *given)
+        for call, given, named in calls(1, COUNT):
+            with self.subTest(call=call, given=given, **named):
+                answer = outcome(call, *given, **named)
                 kinds, numbers = ANSWERS[call]
                 if is_refusal(answer):
                     self.assertIn(answer[0], numbers)
@@ -51,13 +51,26 @@ class Random(unittest.TestCase):
 
     def test_guards_and_what_was_in_lent_arrays_before(self) -> None:
         made = list(calls(2, COUNT // 4))
-        plain = [outcome(call, *given) for call, *given in made]
+        plain = [outcome(call, *given, **named) for call, given, named in made]
         with guarded():
-            self.assertEqual([outcome(call, *given) for call, *given in made], plain)
+            self.assertEqual([outcome(call, *given, **named) for call, given, named in made], plain)
+
+    def test_what_the_new_edition_accepts_the_old_one_accepts_alike(self) -> None:
+        met: Counter[Any] = Counter()
+        for call, given, named in calls(4, COUNT):
+            if named:
+                new, old = (outcome(call, *given, edition=edition) for edition in (Edition.NEW, Edition.OLD))
+                with self.subTest(call=call, given=given):
+                    # Only what the new edition refuses with 3, or with 22 in a file, can be another answer in the old one.
+                    if not is_refusal(new) or new[0] not in (3, 22):
+                        self.assertEqual(old, new)
+                met[call, old == new] += 1
+        # Both are met of each call: the same answer, and another one.
+        self.assertEqual(len(met), 8)
 
     def test_threads(self) -> None:
         made = list(calls(3, COUNT // 4))
-        plain = [outcome(call, *given) for call, *given in made]
+        plain = [outcome(call, *given, **named) for call, given, named in made]
         with ThreadPoolExecutor(8) as threads:
-            waiting = [threads.submit(outcome, call, *given) for call, *given in made]
+            waiting = [threads.submit(outcome, call, *given, **named) for call, given, named in made]
             self.assertEqual([each.result() for each in waiting], plain)

@@ -3,10 +3,11 @@
 from __future__ import annotations
 
 import copy
+import itertools
 import pickle
 import unittest
 
-from korzhinay import MEANINGS, Datum, Refused, Table, Token, check_table, evaluate, field, raw, select, tokens
+from korzhinay import MEANINGS, Datum, Edition, Refused, Table, Token, check_table, evaluate, field, raw, select, tokens
 
 from .outcome import outcome, place
 
@@ -45,29 +46,29 @@ FRONT = b"x\n  !if "
 
 class Numbers(unittest.TestCase):
     def test_expressions(self) -> None:
-        for number, expression, offset in EXPRESSIONS:
-            with self.subTest(number):
-                self.assertEqual(outcome(evaluate, expression), (number, 0, offset))
-                self.assertEqual(outcome(field, expression, Datum.UINT8), (number, 0, offset))
+        for edition, (number, expression, offset) in itertools.product(Edition, EXPRESSIONS):
+            with self.subTest(number, edition=edition):
+                self.assertEqual(outcome(evaluate, expression, edition=edition), (number, 0, offset))
+                self.assertEqual(outcome(field, expression, Datum.UINT8, edition=edition), (number, 0, offset))
                 if number <= 6:
-                    self.assertEqual(outcome(tokens, expression), (number, 0, offset))
+                    self.assertEqual(outcome(tokens, expression, edition=edition), (number, 0, offset))
 
     def test_expressions_in_files(self) -> None:
-        for number, expression, offset in EXPRESSIONS:
+        for edition, (number, expression, offset) in itertools.product(Edition, EXPRESSIONS):
             # A line is too short for 2, and bars need no parentheses.
             wanted = {2: (17, 2, 0), 8: (13, 2, 0)}.get(number, (number, 2, offset + len("  !if ")))
-            with self.subTest(number):
-                self.assertEqual(outcome(select, FRONT + expression.encode() + b"\r\n!endif"), wanted)
+            with self.subTest(number, edition=edition):
+                self.assertEqual(outcome(select, FRONT + expression.encode() + b"\r\n!endif", edition=edition), wanted)
 
     def test_files(self) -> None:
-        for number, file, line in FILES:
-            with self.subTest(number):
-                self.assertEqual(outcome(select, file), (number, line, 0))
+        for edition, (number, file, line) in itertools.product(Edition, FILES):
+            with self.subTest(number, edition=edition):
+                self.assertEqual(outcome(select, file, edition=edition), (number, line, 0))
 
     def test_fields(self) -> None:
-        for number, given in FIELDS:
-            with self.subTest(number):
-                self.assertEqual(outcome(field, *given), (number, 0, 0))
+        for edition, (number, given) in itertools.product(Edition, FIELDS):
+            with self.subTest(number, edition=edition):
+                self.assertEqual(outcome(field, *given, edition=edition), (number, 0, 0))
         self.assertEqual(outcome(field, "1", Datum.UINT16, room=1), (26, 0, 0))
 
     def test_tables(self) -> None:
@@ -75,7 +76,8 @@ class Numbers(unittest.TestCase):
         self.assertEqual(outcome(Table.from_bytes, b"x"), (1, 0, 0))
 
     def test_too_few_marks_are_never_lent(self) -> None:
-        self.assertEqual(raw.select(0, b"\n", b""), (16, 0, 0, 0, b""))
+        for edition in Edition:
+            self.assertEqual(raw.select(0, b"\n", b"", edition), (16, 0, 0, 0, b""))
         self.assertEqual(select(b"\n" * 4096).lines, 4096)
 
     def test_every_number_is_here(self) -> None:

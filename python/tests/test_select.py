@@ -2,9 +2,10 @@
 
 from __future__ import annotations
 
+import itertools
 import unittest
 
-from korzhinay import Mark, Selection, Table, select
+from korzhinay import Edition, Mark, Selection, Table, select
 
 from .checkout import COMMAND, CORPUS, EXAMPLES, run
 from .outcome import outcome
@@ -61,10 +62,10 @@ class Command(unittest.TestCase):
         self.assertGreater(len(files), 10)
         for settings in EXAMPLES / "buoy.settings", CORPUS / "spar.settings":
             table = Table.from_bytes(written_by_the_command("-s", settings))
-            for path in files:
-                with self.subTest(str(path), settings=settings.name):
-                    status, kept, said = run(COMMAND, "select", "-s", settings, path)
-                    answer = outcome(select, path.read_bytes(), table)
+            for path, edition in itertools.product(files, Edition):
+                with self.subTest(str(path), settings=settings.name, edition=edition):
+                    status, kept, said = run(COMMAND, "select", "--edition", edition.name.lower(), "-s", settings, path)
+                    answer = outcome(select, path.read_bytes(), table, edition=edition)
                     if isinstance(answer, Selection):
                         self.assertEqual((status, kept), (0, answer.kept()))
                     else:

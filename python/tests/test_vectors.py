@@ -1,16 +1,18 @@
-"""The vectors of the library, worked out by hand from its rules (tests/vectors): the module gives the same answers."""
+"""The vectors of the library, worked out by hand from its rules (tests/vectors): the module gives the same answers, in both editions."""
 
 from __future__ import annotations
 
 import unittest
+from itertools import product
 from typing import Any, Tuple
 
-from korzhinay import Refused, Selection, Table, Value, Wide, check_table, evaluate, field, select, tokens
+from korzhinay import Edition, Refused, Selection, Table, Value, Wide, check_table, evaluate, field, select, tokens
 from korzhinay.codes import Memory
 
 from . import checkout  # The vectors are found by it.
 from .outcome import outcome
 
+import editions
 import evaluation
 import field as fields
 import offsets
@@ -30,21 +32,26 @@ def value(answer: Tuple[int, ...], expression: bytes, table: bytes) -> Value:
 
 class Vectors(unittest.TestCase):
     def test_they_are_those_of_the_repository(self) -> None:
-        for module in evaluation, fields, offsets, positions, selection, tables, scans:
+        for module in editions, evaluation, fields, offsets, positions, selection, tables, scans:
             self.assertTrue(str(module.__file__).startswith(str(checkout.ROOT / "tests" / "vectors")))
 
+    def test_editions(self) -> None:
+        self.assertEqual({edition.name.lower(): edition for edition in Edition}, editions.EDITIONS)
+
     def test_tokens(self) -> None:
-        for expression, refusal, read in scans.VECTORS:
+        for edition, vector in product(Edition, scans.VECTORS):
+            expression, *_ = vector
             try:
-                number, found = 0, tokens(expression)
+                number, offset, found = 0, 0, tokens(expression, edition=edition)
             except Refused as refused:
-                number, found = refused.number, refused.tokens
+                number, offset, found = refused.number, refused.offset, refused.tokens
             got = [(token.code, token.start, token.length, token.value) for token in found]
-            self.assertEqual((number, got), (refusal, scans.expected(read, expression)), expression)
+            self.assertEqual((number, offset, got), editions.wanted_in(edition, scans.answer(*vector)), expression)
 
     def test_places_of_refused_tokens(self) -> None:
-        for expression, number, offset in offsets.TOKENS:
-            answer = outcome(tokens, expression)
+        for edition, (expression, refusal) in product(Edition, offsets.TOKENS):
+            number, offset = editions.wanted_in(edition, refusal)
+            answer = outcome(tokens, expression, edition=edition)
             self.assertEqual(answer if number else (0, 0, 0), (number, 0, offset), expression)
 
     def test_tables(self) -> None:
@@ -63,20 +70,23 @@ class Vectors(unittest.TestCase):
                 self.assertEqual(bytes(Table(dict(Table.from_bytes(records)))), records)
 
     def test_values(self) -> None:
-        for expression, records, (refusal, offset, answer) in evaluation.VECTORS:
+        for edition, (expression, records, answers) in product(Edition, evaluation.VECTORS):
+            refusal, offset, answer = editions.wanted_in(edition, answers)
             wanted = (refusal, 0, offset) if refusal else value(answer, expression, records)
-            self.assertEqual(outcome(evaluate, expression, records), wanted, expression)
+            self.assertEqual(outcome(evaluate, expression, records, edition=edition), wanted, expression)
 
     def test_fields(self) -> None:
-        for expression, records, datum, room, wanted in fields.VECTORS:
+        for edition, (expression, records, datum, room, answers) in product(Edition, fields.VECTORS):
+            wanted = editions.wanted_in(edition, answers)
             if isinstance(wanted, tuple):
                 number, offset = wanted
                 wanted = number, 0, offset
-            self.assertEqual(outcome(field, expression, datum, records, room=room), wanted, expression)
+            self.assertEqual(outcome(field, expression, datum, records, room=room, edition=edition), wanted, expression)
 
     def test_selections(self) -> None:
-        for file, records, room, (refusal, line, offset, marks, operators) in selection.VECTORS:
+        for edition, (file, records, _, answers) in product(Edition, selection.VECTORS):
+            refusal, line, offset, marks, operators = editions.wanted_in(edition, answers)
             # Too few marks are never lent here.
             if refusal != 16:
                 wanted = (refusal, line, offset) if refusal else Selection(marks, operators, file)
-                self.assertEqual(outcome(select, file, records), wanted, file)
+                self.assertEqual(outcome(select, file, records, edition=edition), wanted, file)

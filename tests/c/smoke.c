@@ -1,10 +1,13 @@
-/* The header and the static library fit together: a few uses of each call from C, with guards round all that is lent, and the header's
- * own function. */
+/* The header and the static library fit together: a few uses of each call from C, in both editions, with guards round all that is lent, and
+ * the header's own function. */
 #include "korzhinay.h"
 #include <stdio.h>
 #include <string.h>
 
 static int passed, failed;
+
+/* The dialect of every call that takes one. */
+static uint8_t dialect;
 
 static void check(const char *what, int good)
 {
@@ -112,7 +115,7 @@ static void tokens(const char *text, struct tokens *t)
     uint16_t *offsets = lend(&starts, sizeof t->starts), *lengths = lend(&lens, sizeof t->lens);
     uint8_t *sorts = lend(&codes, sizeof t->codes);
 
-    korzhinay_tokens((const uint8_t *)text, length_of(text), three, sorts, offsets, lengths, numbers);
+    korzhinay_tokens((const uint8_t *)text, length_of(text), dialect, three, sorts, offsets, lengths, numbers);
     take_back("beside three numbers of tokens", &out, t->out, sizeof t->out);
     take_back("beside codes", &codes, t->codes, sizeof t->codes);
     take_back("beside starts", &starts, t->starts, sizeof t->starts);
@@ -135,7 +138,7 @@ static int scanned(const struct tokens *t, uint64_t refusal, uint64_t count, uin
 
 static void check_tokens(void)
 {
-    static char most[202], deep[18];
+    char most[202] = "", deep[18] = "";
     struct tokens t;
 
     tokens("$(WEEK) <= 5", &t);
@@ -165,7 +168,7 @@ static uint8_t evaluate(const char *text, const uint8_t *table, size_t table_len
 {
     struct lent lent;
     uint64_t *seven = lend(&lent, 7 * sizeof out[0]);
-    uint8_t refusal = korzhinay_evaluate((const uint8_t *)text, length_of(text), table, table_len, seven);
+    uint8_t refusal = korzhinay_evaluate((const uint8_t *)text, length_of(text), table, table_len, dialect, seven);
     take_back("beside seven numbers", &lent, out, 7 * sizeof out[0]);
     return refusal;
 }
@@ -214,7 +217,7 @@ static uint8_t field(uint8_t buffer[8], size_t room, const char *text, const uin
     uint8_t *start = lend(&bytes, room);
     uint64_t *two = lend(&numbers, 2 * sizeof out[0]);
     uint8_t refusal = korzhinay_field(room > 0 ? start : NULL, room, (const uint8_t *)text, length_of(text), table, table_len, datum,
-                                      two);
+                                      dialect, two);
     take_back("beside a field", &bytes, buffer, 8);
     take_back("beside a field's two numbers", &numbers, out, 2 * sizeof out[0]);
     return refusal;
@@ -274,7 +277,8 @@ static uint8_t selection(uint8_t marks[8], size_t room, const char *file, const 
     struct lent bytes, numbers;
     uint8_t *start = lend(&bytes, room);
     uint64_t *four = lend(&numbers, 4 * sizeof out[0]);
-    uint8_t refusal = korzhinay_select(room > 0 ? start : NULL, room, (const uint8_t *)file, length_of(file), table, table_len, four);
+    uint8_t refusal = korzhinay_select(room > 0 ? start : NULL, room, (const uint8_t *)file, length_of(file), table, table_len, dialect,
+                                       four);
     take_back("beside marks", &bytes, marks, 8);
     take_back("beside four numbers", &numbers, out, 4 * sizeof out[0]);
     return refusal;
@@ -322,6 +326,61 @@ static void check_selection(const uint8_t *table, size_t table_len)
     check("eight", shows(out, 0, 8, 0, 0) && holds(marks, "\1\1\1\1\1\1\1\1", 8));
 }
 
+/* What is taken in the old edition. */
+static void check_old(const uint8_t *table, size_t table_len)
+{
+    uint8_t bytes[8];
+    uint64_t out[7];
+    struct tokens t;
+
+    tokens("'a' == abc", &t);
+    check("a bare word", scanned(&t, 0, 3, 0) && t.codes[2] == KORZHINAY_BARE && t.starts[2] == 7 && t.lens[2] == 3 && t.values[2] == 0);
+    check("a comparison with it", evaluate("'abc' == abc", NULL, 0, out) == 0 && answers(out, KORZHINAY_KIND_NUMBER, 1, 1, 0, 0, 0));
+    check("its kind", evaluate("$(NAME) != xy", table, table_len, out) == KORZHINAY_REFUSAL_KINDS_UNSUITED && refused_at(out, 8));
+    check("a field", field(bytes, 8, "'a' NE b", NULL, 0, KORZHINAY_DATUM_UINT16, out) == 0 && written(out, bytes, "\1", 2));
+    check("a condition", selection(bytes, 8, "!if 'a' == b\n!endif", NULL, 0, out) == 0);
+    check("and its mark", shows(out, 0, 2, 1, 0) && holds(bytes, "\3\5", 2));
+    check("a macro after !ifdef", selection(bytes, 8, "!ifdef $(WEEK)\n!endif", table, table_len, out) == 0);
+    check("that is set", shows(out, 0, 2, 0, 0) && holds(bytes, "\4\5", 2));
+}
+
+/* What is refused in the new one. */
+static void check_new(const uint8_t *table, size_t table_len)
+{
+    uint8_t bytes[8];
+    uint64_t out[7];
+    struct tokens t;
+
+    tokens("'a' == abc", &t);
+    check("no bare word", scanned(&t, KORZHINAY_REFUSAL_TOKEN_BAD, 2, 7));
+    check("no comparison with one", evaluate("'abc' == abc", NULL, 0, out) == KORZHINAY_REFUSAL_TOKEN_BAD && refused_at(out, 9));
+    check("whatever its kind", evaluate("$(NAME) != xy", table, table_len, out) == KORZHINAY_REFUSAL_TOKEN_BAD && refused_at(out, 11));
+    check("no field", field(bytes, 8, "'a' NE b", NULL, 0, KORZHINAY_DATUM_UINT16, out) == KORZHINAY_REFUSAL_TOKEN_BAD
+          && left(out, bytes, 7));
+    check("no condition", selection(bytes, 8, "!if 'a' == b\n!endif", NULL, 0, out) == KORZHINAY_REFUSAL_TOKEN_BAD);
+    check("at the word", shows(out, 1, 0, 0, 11) && refused(bytes, 8));
+    check("no macro after !ifndef", selection(bytes, 8, "!ifndef $(NO)\n!endif", NULL, 0, out) == KORZHINAY_REFUSAL_TEXT_MALFORMED);
+    check("in line 1", shows(out, 1, 0, 0, 0) && refused(bytes, 8));
+}
+
+/* What differs, with every dialect, of which bit 0 is the edition; then what is the same in both editions. */
+static void check_dialects(const uint8_t *table, size_t table_len)
+{
+    for (int each = 0; each <= UINT8_MAX; each++) {
+        dialect = (uint8_t)each;
+        if (each % 2 == KORZHINAY_EDITION_OLD)
+            check_old(table, table_len);
+        else
+            check_new(table, table_len);
+    }
+    for (dialect = KORZHINAY_EDITION_NEW; dialect <= KORZHINAY_EDITION_OLD; dialect++) {
+        check_tokens();
+        check_evaluation(table, table_len);
+        check_field(table, table_len);
+        check_selection(table, table_len);
+    }
+}
+
 static int means(uint8_t number, const char *meaning)
 {
     return strcmp(korzhinay_meaning(number), meaning) == 0;
@@ -360,10 +419,7 @@ int main(void)
     week[72] = 48;
     check_table(week, KORZHINAY_RECORD_BYTES);
     check_lookup(week, KORZHINAY_RECORD_BYTES, settings, sizeof settings);
-    check_tokens();
-    check_evaluation(settings, sizeof settings);
-    check_field(settings, sizeof settings);
-    check_selection(settings, sizeof settings);
+    check_dialects(settings, sizeof settings);
     check_meanings();
 
     printf("%d passed, %d failed\n", passed, failed);

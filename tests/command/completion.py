@@ -93,6 +93,17 @@ def datum_types():
     yield "a type that is begun after =", complete("field", "--datum", "=", "B")[0], {"BOOLEAN"}
 
 
+def editions():
+    """The editions follow --edition."""
+    for subcommand in SUBCOMMANDS:
+        offered = {"old", "new"} if subcommand != "table" else set()
+        for words in (["--edition", ""], ["--json", "--edition", ""], ["--edition", "="]):
+            got = complete(subcommand, *words)[0]
+            yield "editions after %s %s" % (subcommand, " ".join(words)), got if offered else got & {"old", "new"}, offered
+    yield "an edition that is begun", complete("select", "--edition", "n")[0], {"new"}
+    yield "an edition that is begun after =", complete("tokens", "--edition", "=", "o")[0], {"old"}
+
+
 def files():
     """Files follow the options that take one, and are operands; no expression is one."""
     with tempfile.TemporaryDirectory() as folder:
@@ -115,6 +126,6 @@ def lints():
 
 
 def checks():
-    for part in (is_registered, subcommands, options_of_subcommands, end_of_options, datum_types, files, lints):
+    for part in (is_registered, subcommands, options_of_subcommands, end_of_options, datum_types, editions, files, lints):
         if chosen("completion_" + part.__name__, "completion"):
             yield from part()

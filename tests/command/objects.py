@@ -11,9 +11,13 @@ ENCODING = "\ufeff# a\n".encode()
 # One note of each kind that a file can have, except UTF-16, which has no line of its own.
 KINDS = [("byte-order-mark", 1, 1, None), ("include", 2, 1, None), ("error", 3, 3, None), ("define", 4, 1, "WEEK"),
          ("unset-macro", 5, 5, "CELS"), ("unset-ifdef", 7, 8, "DEBUG"), ("bare-cr", 9, 2, None), ("nul", 10, 3, None),
-         ("define", 11, 1, None), ("define", 12, 1, "LAMP"), ("hidden-directive", 13, 2, None), ("quoted-macro", 14, 6, "BOARD")]
+         ("define", 11, 1, None), ("define", 12, 1, "LAMP"), ("hidden-directive", 13, 2, None), ("quoted-macro", 14, 6, "BOARD"),
+         ("bare-macro", 16, 16, "SPAR"), ("old-word", 16, 16, "SPAR"), ("old-ifdef", 18, 8, "SPAR")]
 EVERY_KIND = (ENCODING + b"!include x\n  !error y\nDEFINE WEEK = 3\n!if $(CELS)\n!endif\n!ifdef DEBUG\n!endif\nb\rc\nde\0\0f\n"
-              b"DEFINE X.Y = 2\nEDK_GLOBAL LAMP = 1\n \x0c!else\n!if '$(BOARD)' == 'SPAR'\n!endif\n")
+              b"DEFINE X.Y = 2\nEDK_GLOBAL LAMP = 1\n \x0c!else\n!if '$(BOARD)' == 'SPAR'\n!endif\n!if $(SPAR) == SPAR\n!endif\n"
+              b"!ifdef $(SPAR)\n!endif\n")
+# With these options.
+NOTED = ["--warn-old", "-D", "SPAR=SPAR"]
 
 
 def read(output):
@@ -119,8 +123,8 @@ def select_notes():
 
 def select_kinds_of_notes():
     """Every kind of note has its name and its place, and the text that standard error has."""
-    lines = answer(["select", "-"], input=EVERY_KIND)[1].decode().splitlines()
-    got, errors, status = run("select", "-", input=EVERY_KIND)
+    lines = answer(["select", *NOTED, "-"], input=EVERY_KIND)[1].decode().splitlines()
+    got, errors, status = run("select", *NOTED, "-", input=EVERY_KIND)
     found = first_file(got)["notes"]
     yield "notes on standard error", (errors.decode().splitlines(), status), (lines, 0)
     yield "kinds of notes", [(each["kind"], each["line"], each["column"], each["name"]) for each in found], KINDS

@@ -7,6 +7,8 @@ from command import SUBCOMMANDS, answer, usage
 from tally import chosen
 
 FORMS = ["--annotate", "--marks", "--keep-lines", "--json"]
+# The subcommands whose answers depend on the edition.
+EDITED = [each for each in SUBCOMMANDS if each != "table"]
 TWICE = "%s is given twice"
 NO_NAME = "names no macro (A-Z, then A-Z, 0-9 and _) and no PCD (two words with a . between them)"
 
@@ -30,12 +32,15 @@ def forms_that_exclude_each_other():
 
 def options_given_twice():
     """What is meant once is taken once."""
-    for option in FORMS + ["--quiet", "--strict"]:
+    for option in FORMS + ["--warn-old", "--quiet", "--strict"]:
         yield wrong_usage("%s twice" % option, TWICE % option, "select", option, "a.dsc", option)
     for words in (["-o", "a", "-o", "b"], ["-oa", "--output", "b"], ["--output=a", "--output=b"]):
         yield wrong_usage("select %s" % " ".join(words), TWICE % "-o", "select", "a.dsc", *words)
     for words in (["-ta", "--table=b"], ["--table", "a", "-t", "b"]):
         yield wrong_usage("eval %s" % " ".join(words), TWICE % "-t", "eval", "1", *words)
+    for subcommand in EDITED:
+        for words in (["--edition=old", "--edition", "old"], ["--edition", "new", "--edition=old"]):
+            yield wrong_usage("%s %s" % (subcommand, " ".join(words)), TWICE % "--edition", subcommand, "1", *words)
     yield wrong_usage("--datum twice", TWICE % "--datum", "field", "--datum=UINT8", "--datum", "UINT8", "1")
     for subcommand in SUBCOMMANDS:
         yield wrong_usage("%s --json twice" % subcommand, TWICE % "--json", subcommand, "--json", "1", "--json")
@@ -43,8 +48,9 @@ def options_given_twice():
 
 def flags_with_a_value():
     """An option without a value takes none."""
-    of_select = [("select", option) for option in FORMS + ["--quiet", "--strict"]]
-    for subcommand, option in of_select + [(each, "--json") for each in SUBCOMMANDS if each != "select"]:
+    of_select = [("select", option) for option in FORMS + ["--warn-old", "--quiet", "--strict"]]
+    of_others = [("eval", "--warn-old"), ("field", "--warn-old")] + [(each, "--json") for each in SUBCOMMANDS if each != "select"]
+    for subcommand, option in of_select + of_others:
         for value in ("1", ""):
             words = [subcommand, "%s=%s" % (option, value), "1"]
             yield wrong_usage(" ".join(words[:2]), "%s takes no value" % option, *words)
@@ -54,7 +60,8 @@ def options_without_a_value():
     """An option at the end has no value."""
     for subcommand, option, message in (("eval", "--settings", "-s wants SETTINGS"), ("eval", "--table", "-t wants TABLE"),
                                         ("eval", "--undefine", "-U wants NAME"), ("eval", "--define", "-D wants NAME[=VALUE]"),
-                                        ("select", "--output", "-o wants OUT"), ("field", "--datum", "--datum wants TYPE")):
+                                        ("select", "--output", "-o wants OUT"), ("field", "--datum", "--datum wants TYPE"),
+                                        *((each, "--edition", "--edition wants old|new") for each in EDITED)):
         yield wrong_usage("%s without a value" % option, message, subcommand, "1", option)
 
 
@@ -63,6 +70,19 @@ def datum_types():
     for words in (["--datum=UINT128"], ["--datum", "UINT128"]):
         yield wrong_usage(" ".join(words), "unknown datum type UINT128", "field", "1", *words)
     yield wrong_usage("--datum=", "unknown datum type ", "field", "--datum=", "1")
+
+
+def editions():
+    """An edition is one of two words, in both forms; `table` has none, and only what can note takes --warn-old."""
+    for subcommand in EDITED:
+        more = ["--datum", "UINT8"] if subcommand == "field" else []
+        for word in ("olde", "NEW", "1", "old new", " old", ""):
+            for words in (["--edition=%s" % word], ["--edition", word]):
+                message = "unknown edition %s: it is old or new" % word
+                yield wrong_usage("%s %s" % (subcommand, " ".join(words)), message, subcommand, "1", *more, *words)
+    yield wrong_usage("table --edition", "unknown option --edition", "table", "-D", "A", "--edition", "old")
+    for subcommand in ("names", "tokens", "table"):
+        yield wrong_usage("%s --warn-old" % subcommand, "unknown option --warn-old", subcommand, "--warn-old", "1")
 
 
 def wrong_names_after_undefine():
@@ -121,7 +141,7 @@ def expression_with_a_minus():
 
 
 def checks():
-    for part in (forms_that_exclude_each_other, options_given_twice, flags_with_a_value, options_without_a_value, datum_types,
+    for part in (forms_that_exclude_each_other, options_given_twice, flags_with_a_value, options_without_a_value, datum_types, editions,
                  wrong_names_after_undefine, long_names_after_undefine, words_for_help, expression_in_several_words,
                  expression_with_a_minus):
         if chosen(part.__name__, "options"):

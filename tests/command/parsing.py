@@ -6,8 +6,8 @@ from command import answer
 from unseen import is_unseen
 
 MEMBERS = {
-    "eval": ["format", "command", "value", "operators", "refusal"],
-    "field": ["format", "command", "datum", "length", "bytes", "refusal"],
+    "eval": ["format", "command", "value", "operators", "notes", "refusal"],
+    "field": ["format", "command", "datum", "length", "bytes", "notes", "refusal"],
     "tokens": ["format", "command", "tokens", "refusal"],
     "table": ["format", "command", "settings", "refusal"],
 }

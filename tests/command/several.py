@@ -9,6 +9,8 @@ FILES = {
     "debug.dsc": b"!ifdef DEBUG\ny\n!endif\n",
     "set.dsc": b"!if $(CELLS) == 8\nz\n!endif\n",
     "bad.dsc": b"e\n!endif\n",
+    "old.dsc": b"!ifdef $(CELLS)\no\n!endif\n",
+    "word.dsc": b"!if 'a' == a AND 'b' != a\nw\n!endif\n",
 }
 
 
@@ -65,6 +67,21 @@ def strict():
     yield "strict without notes", select("--strict", "a.dsc", "b.dsc"), (b"a\nc\nd\n", wanted, 0)
 
 
+def old_spellings():
+    """With --warn-old each file has its own notes on what the new edition would refuse, and they are counted."""
+    old = "old.dsc:1:8: note: the new edition refuses $(CELLS) after `!ifdef`; write CELLS"
+    words = ["word.dsc:1:%d: note: the new edition refuses the bare word a; write \"a\"" % column for column in (12, 25)]
+    for options, wanted, status in (
+            ([], ["korzhinay: 2 files, 2 of 6 lines kept, 0 notes"], 0),
+            (["--warn-old"], [old, *words, "korzhinay: 2 files, 2 of 6 lines kept, 3 notes"], 0),
+            (["--warn-old", "--quiet"], [], 0),
+            (["--strict"], ["korzhinay: 2 files, 2 of 6 lines kept, 0 notes"], 0),
+            (["--warn-old", "--strict"], [old, *words, "korzhinay: 2 files, 2 of 6 lines kept, 3 notes",
+                                          "korzhinay: 3 notes under --strict, so nothing is written"], 1)):
+        got = select("-D", "CELLS=8", *options, "old.dsc", "word.dsc")
+        yield "old spellings with %s" % options, got, (b"" if status else b"o\nw\n", wanted, status)
+
+
 def settings_of_any_file():
     """A setting is used if one of the files names it."""
     unused = "korzhinay: note: no read directive names these settings: CELLS (-D CELLS=8)"
@@ -82,6 +99,6 @@ def names_of_files():
 
 
 def checks():
-    for part in (summary, summary_with_refusals, summary_with_notes, strict, settings_of_any_file, names_of_files):
+    for part in (summary, summary_with_refusals, summary_with_notes, strict, old_spellings, settings_of_any_file, names_of_files):
         if chosen("several_" + part.__name__, "several"):
             yield from part()

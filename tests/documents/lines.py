@@ -14,7 +14,7 @@ WORDS = {
         ("{} '1'\n!endif", 13),
         ("!if 0\n{} 1\nx\n!endif\n!endif", "32025"),
     ],
-    ("a blank, then a macro as `NAME` or `$(NAME)`", "the table has that name, whatever its value"): [
+    ("a blank, then a macro as `NAME` or, in the old edition, `$(NAME)`", "the table has that name, whatever its value"): [
         ("{} A\n!endif", "45"),
         ("{}\t$(A) # set\n!endif", "45"),
         ("{} B\n!endif", "35"),

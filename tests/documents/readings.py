@@ -37,12 +37,15 @@ def entries():
 
 
 def table(reading, text):
-    """The heading of a reading's table and its rows. It ends the test if there is not just one table: another would not be checked."""
+    """The headings of a reading's table and its rows. It ends the test if there is not just one table: another would not be checked."""
     found = re.findall(r"^(\|.*\|)\n\|[-|]+\n((?:\|.*\n)+)", text + "\n", re.M)
     if len(found) != 1:
         raise SystemExit("%s: %s has %d tables" % (DECISIONS, reading, len(found)))
     (head, body), = found
-    return cells(head)[0], [cells(line) for line in body.splitlines()]
+    headings, rows = cells(head), [cells(line) for line in body.splitlines()]
+    if tuple(headings[1:]) not in ANSWERS or {len(row) for row in rows} != {len(headings)}:
+        raise SystemExit("%s: the test does not know the columns of %s" % (DECISIONS, reading))
+    return headings, rows
 
 
 def expression(cell):
@@ -62,22 +65,22 @@ def file(cell):
     return b"\n".join(text.encode() + b"\r" * ends.count("CR") + b"\n" * ends.count("LF") for text, ends in lines)
 
 
-def value_answer(text):
-    refusal, offset, (kind, value, count, _, start, length) = library.evaluate(text, b"")
+def value_answer(text, edition):
+    refusal, offset, (kind, value, count, _, start, length) = library.evaluate(text, b"", edition)
     if refusal:
         return "refused (%d) at byte %d" % (refusal, offset)
     said = "string, %d bytes from byte %d" % (length, start) if kind else str(value)
     return said + (", count %d" % count if count else "")
 
 
-def tokens_answer(text):
-    refusal, offset, found = library.tokens(text)
+def tokens_answer(text, edition):
+    refusal, offset, found = library.tokens(text, edition)
     said = "%d token%s" % (len(found), "" if len(found) == 1 else "s")
     return "refused (%d) at byte %d, %s" % (refusal, offset, said) if refusal else said
 
 
-def file_answer(text):
-    refusal, line, offset, lines, _, marks = library.select(text, b"", ROOM)
+def file_answer(text, edition):
+    refusal, line, offset, lines, _, marks = library.select(text, b"", ROOM, edition)
     if refusal:
         return "refused (%d) at line %d, byte %d" % (refusal, line, offset)
     return "marks " + " ".join(map(str, marks[:lines]))
@@ -88,6 +91,9 @@ def as_told(said, wanted):
     return said if PLACE.search(wanted) else PLACE.sub("", said)
 
 
+# The columns after the inputs: which of them has the answer in each edition.
+ANSWERS = {("answer",): {"old": 0, "new": 0}, ("old edition", "new edition"): {"old": 0, "new": 1}}
+EDITIONS = {"old": library.OLD, "new": library.NEW}
 # Of each heading: how its inputs are made, and their answers. The inputs under another heading are described in words.
 IN_WORDS = "input"
 KINDS = {"expression": (expression, value_answer), "tokens of": (expression, tokens_answer), "file": (file, file_answer)}
@@ -132,8 +138,10 @@ def checks():
     yield "edits that are named and not there", sorted(named - edits), []
     yield "readings that no vector cites, and those that are cited and not there", readings.keys() ^ set(cited()), set()
     for reading, entry in readings.items():
-        heading, rows = table(reading, entry)
-        for cell, wanted in rows if heading != IN_WORDS else []:
+        (heading, *answers), rows = table(reading, entry)
+        for cell, *given in rows if heading != IN_WORDS else []:
             make, answer = KINDS[heading]
-            yield "%s, %s" % (reading, cell), as_told(answer(make(cell)), wanted), wanted
+            for edition, column in ANSWERS[tuple(answers)].items():
+                wanted = given[column]
+                yield "%s, %s, %s edition" % (reading, cell, edition), as_told(answer(make(cell), EDITIONS[edition]), wanted), wanted
             yield "%s, %s is a vector" % (reading, cell), is_vector(heading, make(cell)), True

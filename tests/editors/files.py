@@ -7,7 +7,7 @@ File = collections.namedtuple("File", "name content line column emacs", defaults
 FILES = {
     "an operator": File("board.dsc", "a\n!if 0\n!elseif 1 / 0\n!endif\n", 3, 11),
     "a byte that starts no token": File("board.dsc", "!if 1\n!endif\n    !if $(A) == @ # c\n!endif\n", 3, 17),
-    "a word without quotes": File("board.dsc", "!ifdef A\n!endif\n!if $(TARGET) == DEBUG\n!endif\n", 3, 18),
+    "a word without quotes": File("board.dsc", "!ifdef A\n!endif\n!if DEBUG == $(TARGET)\n!endif\n", 3, 5),
     "kinds": File("Sea Buoy.dsc", '!if $(TARGET) == "DEBUG"\n!endif\n', 1, 15),
     "a PCD": File("silicon/spar/Board-7.fdf.inc", "x\n!if 1 OR gBuoy.PcdCells\n!endif\n", 2, 10),
     # The cursor cannot be after the last byte of a line in Vim, which stays at that byte.

@@ -12,6 +12,7 @@ REFUSED = "%s:1:7: refused (12)"
 # Without settings it is refused, since a macro that is not set is a number.
 BOARD = '!if $(BOARD) == "SPAR"\nx\n!endif\n'
 UNSET = "!if $(CELS) > 4\nx\n!endif\n"
+OLD = "!if 'SPAR' == SPAR\nx\n!endif\n"
 
 
 class Repository:
@@ -130,6 +131,15 @@ def notes():
         yield "no note, strictly", made.hook(), ([], 0)
 
 
+def editions():
+    """The edition is that of git's configuration, and old without one."""
+    with repository({"old.dsc": OLD}) as made:
+        yield "the old edition", made.hook(), ([], 0)
+        for edition, wanted in ("new", (["old.dsc:1:15: refused (3)"], 1)), ("old", ([], 0)), ("other", ([], 2)):
+            made.git("config", "korzhinay.edition", edition)
+            yield "the edition %s" % edition, made.hook(), wanted
+
+
 def checks():
-    for part in commits, files, staged, settings, notes:
+    for part in commits, files, staged, settings, notes, editions:
         yield from part()

@@ -52,6 +52,11 @@ def checks():
         write(folder, "settings/drifter.settings", DRIFTER.replace("0", "6"))
         yield "it is mended", boards.make(), (1, [], 0)
         yield "all outputs", boards.outputs(), {"drifter.dsc": "other\n", "spar.dsc": "spar\ncells\n"}
+        boards.change(DESCRIPTION.replace('"', ""))
+        yield "old spellings", boards.make("NOTES=--quiet"), (2, [], 0)
+        boards.change(DESCRIPTION.replace('"', ""))
+        yield "old spellings, noted", boards.make("--keep-going", "NOTES=--warn-old --strict"), (2, ["Buoy.dsc:1:17: note"] * 2, 2)
+        yield "old spellings, refused", boards.make("--keep-going", "EDITION=new"), (2, ["Buoy.dsc:1:17: refused (3)"] * 2, 2)
         boards.change("!if $(CELS) > 4\nx\n!endif\n")
         yield "a note, strictly", boards.make("--keep-going", "NOTES=--strict"), (2, ["Buoy.dsc:1:5: note"] * 2, 2)
         yield "nothing is left", boards.outputs(), {}

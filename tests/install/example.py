@@ -9,6 +9,7 @@ LINE = b"x" * 63 + b"\n"
 FILES = {
     "kept.dsc": b"a\n!if $(WEEK) == 0\r\nb\r\n!else\nc\n!endif\nd",
     "empty.dsc": b"",
+    "old.dsc": b"!ifdef $(WEEK)\n!else\na\n!endif\n!if 'a' == a\nb\n!endif\n",
     "divisor.dsc": b"a\n  !if 1 / 0\n!endif\n",
     "word.dsc": b"a\n!iff 1\n",
     "longest.dsc": LINE * 1024,

@@ -1,11 +1,13 @@
 """What `make install` puts where, and that `make uninstall` takes all of it away, and nothing else."""
 import os
+import re
 
 from installation import MODULE, MODULE_FOLDER, ROOT, TARGET, VERSION, listing, made, make, read
 
 EXAMPLES = os.path.join(ROOT, "examples")
 REAL = "libkorzhinay.so." + VERSION
-SONAME = "libkorzhinay.so." + VERSION.split(".")[0]
+# While the first number is 0, the second one is in the name too.
+SONAME = "libkorzhinay.so." + re.match(r"0\.\d+|[1-9]\d*", VERSION)[0]
 
 
 def mode(path):
@@ -46,7 +48,8 @@ SOURCES = {
 # What an installation builds where it is missing or older than its sources.
 BUILT = [os.path.join(*source) for source in SOURCES.values() if source[0] == TARGET]
 # Files of others, in folders that an installation uses.
-OTHERS = ["bin/other", "lib/libkorzhinay.so.9", "lib/pkgconfig/other.pc", "include/other.h", "share/doc/other/LICENSE", "python/other.py"]
+OTHERS = ["bin/other", "lib/libkorzhinay.so.9", "lib/libkorzhinay.so.0", "lib/libkorzhinay.so.0.1.0", "lib/pkgconfig/other.pc",
+          "include/other.h", "share/doc/other/LICENSE", "python/other.py"]
 
 
 def folders(top):

@@ -5,7 +5,7 @@ import re
 import shutil
 import time
 
-from files import wanted
+from files import SONAME, wanted
 from installation import ROOT, TARGET, VERSION, installed, left_out, listing, made, make, read, run
 
 # A date for all files of a package, in seconds, and as it is shown.
@@ -98,7 +98,8 @@ def check_control(folder, control):
     yield "package and version", (field("Package"), field("Version")), ("korzhinay", VERSION)
     yield "architecture", "_%s.deb" % field("Architecture") in path(), True
     yield "the loader's cache", read(control, "triggers"), b"activate-noawait ldconfig\n"
-    yield "for those who link", read(control, "shlibs").decode(), "libkorzhinay %s korzhinay (>= %s)\n" % (VERSION.split(".")[0], VERSION)
+    wanted_line = "libkorzhinay %s korzhinay (>= %s)\n" % (SONAME.removeprefix("libkorzhinay.so."), VERSION)
+    yield "for those who link", read(control, "shlibs").decode(), wanted_line
     yield "sums", run("md5sum", "--check", "--quiet", "--strict", os.path.join(control, "md5sums"), folder=folder), ("", "", 0)
     summed = {line.split("  ", 1)[1] for line in read(control, "md5sums").decode().splitlines()}
     yield "files with sums", summed, {"usr/" + each for each, mode in in_package().items() if mode in ("644", "755")}

@@ -7,7 +7,14 @@ from installation import VERSION, installed, made
 from linking import entries
 
 HERE = os.path.dirname(os.path.abspath(__file__))
-SAID = "version %s: %s\n1 + 2 * 3 = 7\n1 / 0: zero divisor, at 2\n4 1 3 0 5\n" % (VERSION, VERSION.replace(".", " "))
+SAID = """\
+version %s: %s
+1 + 2 * 3 = 7
+1 / 0: zero divisor, at 2
+'a' == a = 1
+'a' == a: no token can be read at some byte, at 7
+4 1 3 0 5
+""" % (VERSION, VERSION.replace(".", " "))
 
 
 def checks():

@@ -39,16 +39,18 @@ __attribute__((noinline)) void perform(const struct call *call, struct answer *a
         a->refusal = korzhinay_lookup(call->table, call->table_len, call->text, call->length, a->out);
         break;
     case CALL_TOKENS:
-        korzhinay_tokens(call->text, call->length, a->out, a->codes, a->starts, a->lens, a->values);
+        korzhinay_tokens(call->text, call->length, call->dialect, a->out, a->codes, a->starts, a->lens, a->values);
         break;
     case CALL_EVALUATE:
-        a->refusal = korzhinay_evaluate(call->text, call->length, call->table, call->table_len, a->out);
+        a->refusal = korzhinay_evaluate(call->text, call->length, call->table, call->table_len, call->dialect, a->out);
         break;
     case CALL_FIELD:
-        a->refusal = korzhinay_field(a->buffer, sizeof a->buffer, call->text, call->length, call->table, call->table_len, call->datum, a->out);
+        a->refusal = korzhinay_field(a->buffer, sizeof a->buffer, call->text, call->length, call->table, call->table_len, call->datum,
+                                     call->dialect, a->out);
         break;
     case CALL_SELECT:
-        a->refusal = korzhinay_select(a->marks, sizeof a->marks, call->text, call->length, call->table, call->table_len, a->out);
+        a->refusal = korzhinay_select(a->marks, sizeof a->marks, call->text, call->length, call->table, call->table_len, call->dialect,
+                                      a->out);
         break;
     case NO_CALL:
         break;

@@ -19,6 +19,7 @@ enum which {
 struct call {
     enum which which;
     uint8_t datum;          /* of a field */
+    uint8_t dialect;        /* of a call that takes one */
     const uint8_t *text;    /* the name, the expression or the file */
     size_t length;
     const uint8_t *table;

@@ -23,8 +23,9 @@ enum {
     LEFT,           /* `(`, with `)?1:0` at the end */
     FIRST_UNARY,
     FIRST_RUNG = FIRST_UNARY + 6, /* one operator of each level, from the loosest to the tightest */
-    FIRST_OTHER = FIRST_RUNG + 11, /* all other spellings of binary operators, and other operands */
-    UNITS = FIRST_OTHER + 32
+    EQUAL = FIRST_RUNG + 6,       /* `1==`, after which an operand may be a bare word */
+    FIRST_OTHER = FIRST_RUNG + 11, /* all other spellings of binary operators, and other operands, with bare words among them */
+    UNITS = FIRST_OTHER + 36
 };
 
 extern const struct unit units[UNITS];
@@ -35,7 +36,7 @@ struct operand {
     int tokens;
 };
 
-#define OPERANDS 17
+#define OPERANDS 21
 extern const struct operand operands[OPERANDS];
 
 struct expression {

@@ -82,13 +82,15 @@ size_t calls_on(const struct expression *e, struct call calls[MOST_CALLS])
     size_t count = 0;
     write_file(&first, "!if ", e);
     write_file(&later, "!if 0\n!elseif ", e);
-    calls[count++] = (struct call){CALL_TOKENS, 0, text, e->length, NULL, 0};
-    for (const struct bytes *t = tables; t < tables + 3; t++) {
-        calls[count++] = (struct call){CALL_EVALUATE, 0, text, e->length, t->start, t->length};
-        for (uint8_t datum = KORZHINAY_DATUM_VOID; datum <= KORZHINAY_DATUM_UINT64; datum++)
-            calls[count++] = (struct call){CALL_FIELD, datum, text, e->length, t->start, t->length};
-        calls[count++] = (struct call){CALL_SELECT, 0, first.bytes, first.length, t->start, t->length};
-        calls[count++] = (struct call){CALL_SELECT, 0, later.bytes, later.length, t->start, t->length};
+    for (uint8_t edition = KORZHINAY_EDITION_NEW; edition <= KORZHINAY_EDITION_OLD; edition++) {
+        calls[count++] = (struct call){CALL_TOKENS, 0, edition, text, e->length, NULL, 0};
+        for (const struct bytes *t = tables; t < tables + 3; t++) {
+            calls[count++] = (struct call){CALL_EVALUATE, 0, edition, text, e->length, t->start, t->length};
+            for (uint8_t datum = KORZHINAY_DATUM_VOID; datum <= KORZHINAY_DATUM_UINT64; datum++)
+                calls[count++] = (struct call){CALL_FIELD, datum, edition, text, e->length, t->start, t->length};
+            calls[count++] = (struct call){CALL_SELECT, 0, edition, first.bytes, first.length, t->start, t->length};
+            calls[count++] = (struct call){CALL_SELECT, 0, edition, later.bytes, later.length, t->start, t->length};
+        }
     }
     return count;
 }
@@ -97,7 +99,7 @@ struct call file_of(const struct expression *e)
 {
     static struct file file;
     write_file(&file, "!if ", e);
-    return (struct call){CALL_SELECT, 0, file.bytes, file.length, NULL, 0};
+    return (struct call){CALL_SELECT, 0, KORZHINAY_EDITION_OLD, file.bytes, file.length, NULL, 0};
 }
 
 /* The tables, and some that are refused: for their length, for one byte in the last record, for a record too many. */
@@ -116,7 +118,7 @@ static void table_calls(take_calls *take)
     for (size_t i = 0; i < sizeof given / sizeof given[0]; i++) {
         struct call calls[9] = {{.which = CALL_TABLE, .table = given[i].start, .table_len = given[i].length}};
         for (size_t j = 0; j < 8; j++)
-            calls[j + 1] = (struct call){CALL_LOOKUP, 0, (const uint8_t *)names[j], strlen(names[j]), given[i].start, given[i].length};
+            calls[j + 1] = (struct call){CALL_LOOKUP, 0, 0, (const uint8_t *)names[j], strlen(names[j]), given[i].start, given[i].length};
         take("tables and lookups", calls, 9);
     }
 }
@@ -125,23 +127,25 @@ static void table_calls(take_calls *take)
 static void file_calls(const char *text, int times, const char *last, take_calls *take)
 {
     static struct file file;
-    struct call calls[3];
+    struct call calls[6];
     file.length = 0;
     append_text(&file, text, times);
     append_text(&file, last, 1);
-    for (int i = 0; i < 3; i++)
-        calls[i] = (struct call){CALL_SELECT, 0, file.bytes, file.length, tables[i].start, tables[i].length};
-    take("files", calls, 3);
+    for (int i = 0; i < 6; i++)
+        calls[i] = (struct call){CALL_SELECT, 0, (uint8_t)(i % 2), file.bytes, file.length, tables[i / 2].start, tables[i / 2].length};
+    take("files", calls, 6);
 }
 
 void each_other(take_calls *take)
 {
     static const char *const texts[] = {
-        "\n", "plain\n", "!if $(X) == 1\r\n!elseif g.N\n!else\n!endif # c\n", "!ifdef X\n!ifndef $(NO)\n!endif\n!endif\n", "!include a\n!error b\n",
+        "\n", "plain\n", "!if $(X) == 1\r\n!elseif g.N\n!else\n!endif # c\n", "!ifdef X\n!ifndef $(NO)\n!endif\n!endif\n",
+        "!include a\n!error b\n", "!if 'a' == b\n!elif 'a' EQ a\n!endif\n",
     };
-    static const int times[] = {4095, 4095, 1000, 1000, 2000};
+    static const int times[] = {4095, 4095, 1000, 1000, 2000, 1300};
     static const char *const ends[] = {
         "", "x", "!if 0\n", "!else", "!iff", "!if 2", "!if 'a'", "!if(1)", "!ifdef a.b", "!if 1/0", "!if @", "!if 1\n!else\n!elif 1\n",
+        "!if 1 == a", "!if 'a' == a.", "!ifdef $(X)\n!endif\n", "!ifndef $(a)",
     };
     table_calls(take);
     for (size_t i = 0; i < sizeof texts / sizeof texts[0]; i++)

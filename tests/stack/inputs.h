@@ -10,8 +10,8 @@
 /* Has to come before all others here. */
 void make_tables(void);
 
-/* Every call that takes an expression, on this one: with no table, a table of 1 record and one of 512, for each datum, and after !if and
- * !elseif in a file with 16 open groups. What they point to stays until the next time. How many they are. */
+/* Every call that takes an expression, on this one: in both editions, with no table, a table of 1 record and one of 512, for each datum,
+ * and after !if and !elseif in a file with 16 open groups. What they point to stays until the next time. How many they are. */
 size_t calls_on(const struct expression *e, struct call calls[MOST_CALLS]);
 
 /* The deepest of these calls alone, as far as is known, to search with. */

@@ -41,7 +41,7 @@ static void print_bytes(const uint8_t *bytes, size_t length)
 
 static void print_call(const char *shape, const struct call *call)
 {
-    printf("  %s, %s, a table of %zu bytes:\n    ", name_of(call->which), shape, call->table_len);
+    printf("  %s, %s, a table of %zu bytes, dialect %d:\n    ", name_of(call->which), shape, call->table_len, call->dialect);
     print_bytes(call->text, call->length <= LONGEST ? call->length : 0);
 }
 

@@ -101,6 +101,7 @@ void each_shape(visit *take)
                 runs(unit, closed, operand, take);
         for (int operand = 2; operand < OPERANDS; operand++) {
             runs(FIRST_UNARY, closed, operand, take);
+            runs(EQUAL, closed, operand, take);
             runs(MIDDLE, closed, operand, take);
             spread(MOST_PARENTHESES, 0, 0, closed, operand, take);
             spread(MOST_PARENTHESES, 1, 0, closed, operand, take);

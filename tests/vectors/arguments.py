@@ -2,6 +2,7 @@
 directives) and the decisions in docs/DECISIONS.md. Each text is tried where it is read and where it is not.
 """
 import bars
+from editions import MALFORMED_TEXT, Differ, mapped
 from settings import LONGEST_MACRO, LONGEST_PCD, TABLE
 
 # After !if, !elseif and !elif: the mark and the count of operators, or the number of a refusal without a place.
@@ -163,22 +164,15 @@ NAMES = [
     (b" A # c", True),
     (b" A#c", True),  # R22
     (b" A#", True),
-    (b" $(A)", True),
-    (b"\t\t$(A)\t", True),
-    (b" $(A)#c", True),
-    (b" $(A) # B", True),
     # whatever its value
     (b" Z", True),
-    (b" $(Z)", True),
     (b" E", True),
     (b" F", True),
     (b" S", True),
     (b" M", True),
     (b" TRUE", True),
     (b" " + LONGEST_MACRO, True),
-    (b" $(" + LONGEST_MACRO + b") # c", True),
     (b" NOPE", False),
-    (b" $(NOPE)", False),
     (b" B", False),
     (b" AA", False),
     (b" A_", False),
@@ -189,7 +183,6 @@ NAMES = [
     (b" TRU", False),
     # no record can have such a name
     (b" " + LONGEST_MACRO + b"X", False),  # R28
-    (b" $(" + LONGEST_MACRO + b"X)", False),
     (b" " + LONGEST_MACRO[1:], False),
     (b" " + b"X" * 1000, False),
     # 22
@@ -232,6 +225,9 @@ NAMES = [
     (b" $((A))", 22),
     (b" $(A))", 22),
     (b" $(A)B", 22),
+    (b" $(A)x", 22),
+    (b" $(A)_", 22),
+    (b" $(A)0", 22),
     (b" $(A)$(A)", 22),
     (b" $(A) A", 22),
     (b" 'A'", 22),
@@ -245,6 +241,30 @@ NAMES = [
     (b" A\xe9", 22),
     (b" \xc4", 22),
     (b" A \x0b", 22),
+]
+
+# After the same words, `$(NAME)`: whether the name is set, in the old edition; in the new one it is 22 (R41).
+MACROS = [
+    (b" $(A)", True),
+    (b"\t\t$(A)\t", True),
+    (b" $(A)#c", True),
+    (b" $(A) # c", True),
+    (b" $(A) # B", True),
+    (b" $(Z)", True),
+    (b" $(" + LONGEST_MACRO + b") # c", True),
+    (b" $(NOPE)", False),
+    (b" $(" + LONGEST_MACRO + b"X)", False),
+    (b" \t $(S) \t ", True),
+    (b"\t$(A)#", True),
+    (b" $(A)# $(a)", True),
+    (b" $(TRUE)", True),
+    (b" $(E)", True),
+    (b" $(B)", False),
+    (b" $(AND)", False),
+    (b" $(L)", False),
+    (b" $(X)", False),
+    (b" $(A_)", False),
+    (b" $(" + b"X" * 1000 + b")", False),
 ]
 
 # After !else and !endif: whether it may stand there.
@@ -286,6 +306,8 @@ NOTHING = [
 
 def within(wanted, front, back):
     """An answer with marks around it, or a refusal without a place in the line after the marks in front."""
+    if isinstance(wanted, Differ):
+        return mapped(lambda each: within(each, front, back), wanted)
     if isinstance(wanted, int):
         return wanted, len(front) + 1
     mark, count = wanted
@@ -311,6 +333,20 @@ def unread(text):
     ]
 
 
+# Mark and count of !ifdef and of !ifndef, by whether the name is set.
+OUTCOMES = {True: ((4, 0), (3, 0)), False: ((3, 0), (4, 0))}
+
+
+def names():
+    """What is after !ifdef and !ifndef, with what it is after either."""
+    for text, is_set in NAMES:
+        yes, no = (is_set, is_set) if is_set == MALFORMED_TEXT else OUTCOMES[is_set]
+        yield text, yes, no
+    for text, is_set in MACROS:
+        yes, no = OUTCOMES[is_set]
+        yield text, Differ(yes, MALFORMED_TEXT), Differ(no, MALFORMED_TEXT)
+
+
 FILES = []
 for text, wanted in CONDITIONS + bars.CONDITIONS:
     FILES += [(before + word + text + after, within(wanted, front, back)) for before, front, word, after, back in READ]
@@ -320,8 +356,7 @@ for first, second, number in REFUSED + bars.REFUSED_CONDITIONS:
         (before + word + first + second + after, (number, len(front) + 1, len(word + first))) for before, front, word, after, _ in READ
     ]
     FILES += unread(first + second)
-for text, is_set in NAMES:
-    yes, no = (is_set, is_set) if is_set == 22 else ((4, 0), (3, 0)) if is_set else ((3, 0), (4, 0))
+for text, yes, no in names():
     FILES += [
         (b"!ifdef" + text + b"\n!endif", within(yes, "", "5")),
         (b"!ifndef" + text + b"\n!endif", within(no, "", "5")),

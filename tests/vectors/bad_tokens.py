@@ -19,7 +19,7 @@ BAD = [
     # the leftmost
     (b"1 + ", b"@ + @", 3),
     (b"", b"foo == bar", 3),
-    (b"1 == ", b"foo", 3),
+    (b"1 <= ", b"foo", 3),
     # the longest token is read, and the byte after it starts none (R1)
     (b"1", b".a", 3),
     (b"1 + 1", b".a", 3),

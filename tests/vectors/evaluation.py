@@ -1,11 +1,13 @@
 """Gathers the vectors of evaluation: an expression, a table, and the answer, which is the refusal's number (0: none) and offset and the six
-numbers: kind, number, count of operators, and a string's array (0 the expression, 1 the table), start and length.
+numbers: kind, number, count of operators, and a string's array (0 the expression, 1 the table), start and length; or a Differ of two.
 """
+import bare_words
 import bars
 import offsets
 import operators
 import precedence
 import values
+from editions import BAD_TOKEN, Differ, mapped
 from settings import TABLE, numbers
 from tables import NUMBER, STRING, WIDE, numbered, record
 
@@ -56,7 +58,7 @@ REFUSED = [
         (b"", text, MALFORMED, 1)
         for text in (
             b"1", b"$(A)", b"", b" ", b"1" * 1025, b"@", b"1 + @", b"18446744073709551616", b"1 + 18446744073709551616", b"-" * 201,
-            b"(" * 17, b"1 2", b"1 +", b"1 | 2", b"g.None", b"1 + g.None", b"1 + 'a'", b"5 - 7", b"1 / 0",
+            b"(" * 17, b"1 2", b"1 +", b"1 | 2", b"g.None", b"1 + g.None", b"1 + 'a'", b"5 - 7", b"1 / 0", b"'a' == a",
         )
     ],
 ]
@@ -70,11 +72,16 @@ def refusal(number, offset):
     return number, offset, (0,) * 6
 
 
-WITH_NUMBERS = values.NUMBERS + precedence.VECTORS + operators.NUMBERS + bars.NUMBERS
+WITH_NUMBERS = values.NUMBERS + precedence.VECTORS + operators.NUMBERS + bars.NUMBERS + bare_words.NUMBERS
 VECTORS = (
     [(expression, TABLE, answer(NUMBER, *rest)) for expression, *rest in WITH_NUMBERS]
     + [(expression, TABLE, answer(kind, 0, *rest)) for expression, kind, *rest in values.STRINGS]
-    + [(expression, TABLE, refusal(*rest)) for expression, *rest in offsets.EXPRESSIONS + operators.REFUSED + bars.BY_THEMSELVES]
+    + [
+        (expression, TABLE, Differ(answer(NUMBER, *rest), refusal(BAD_TOKEN, word)))
+        for expression, *rest, word in bare_words.ACCEPTED_IN_OLD
+    ]
+    + [(expression, TABLE, mapped(lambda each: refusal(*each), wanted)) for expression, wanted in offsets.EXPRESSIONS]
+    + [(expression, TABLE, refusal(*rest)) for expression, *rest in operators.REFUSED + bars.BY_THEMSELVES]
     + [(expression, table, answer(NUMBER, *rest)) for expression, table, *rest in OTHER_TABLES]
     + [(front + back, table, refusal(number, len(front))) for front, back, table, number in REFUSED]
 )

@@ -1,9 +1,12 @@
 """Data fields, worked out by hand from document 01 (Field bytes and Refusal numbers).
 
-VECTORS gathers them: an expression, a table, a datum code, the buffer's length, and the field's bytes or a refusal's number and offset.
+VECTORS gathers them: an expression, a table, a datum code, the buffer's length, and the field's bytes or a refusal's number and offset, or
+a Differ of two.
 """
+import bare_words
 import bars
 import offsets
+from editions import BAD_TOKEN, Differ
 from settings import TABLE
 
 VOID, BOOLEAN, UINT8, UINT16, UINT32, UINT64 = range(6)
@@ -140,3 +143,15 @@ VECTORS += [(text, TABLE, code, room, tuple(refusal)) for text, *refusal in bars
 for text, code, wanted in FIELDS:
     VECTORS += [(text, TABLE, code, len(wanted) + more, wanted) for more in (0, 1, 2, 9)]
     VECTORS += [(text, TABLE, code, room, (26, 0)) for room in sorted({0, len(wanted) // 2, len(wanted) - 1})]
+
+# Bare words: the number as a field, and what comes after the expression's own refusals.
+for text, number, _, word in bare_words.ACCEPTED_IN_OLD:
+    in_old = [
+        (BOOLEAN, 1, bytes([number]) if number <= 1 else (25, 0)),
+        (UINT8, 9, bytes([number])),
+        (UINT64, 8, number.to_bytes(8, "little")),
+        (UINT64, 7, (26, 0)),
+        (VOID, 8, (24, 0)),
+        (6, 0, (23, 0)),
+    ]
+    VECTORS += [(text, TABLE, code, room, Differ(old, (BAD_TOKEN, word))) for code, room, old in in_old]

@@ -1,13 +1,15 @@
 """Gathers the vectors of selection: a file, a table, how many bytes of marks are lent, and the answer, which is the refusal's number
-(0: none), line and offset, and the marks of the lines and the count of operators.
+(0: none), line and offset, and the marks of the lines and the count of operators; or a Differ of two.
 """
 import arguments
 import bars
+import edition_files
 import groups
 import limits
 import lines
 import offsets
 import placed_lines
+from editions import OLD, mapped, wanted_in
 from settings import TABLE
 
 # The refusals that have a place; all others have the offset 0.
@@ -20,6 +22,7 @@ WHOLE = (
     + bars.VECTORS
     + limits.VECTORS
     + [(file, TABLE, wanted) for file, wanted in placed_lines.VECTORS]
+    + edition_files.VECTORS
 )
 
 
@@ -43,10 +46,12 @@ def rooms(file, table, wanted):
     """Tries a vector with just enough marks, with more, and with fewer, which is 16 unless 1, 14 or 15 comes before."""
     enough = line_count(file)
     for room in (enough, enough + 1, enough + 13):
-        yield file, table, room, answer(wanted)
+        yield file, table, room, mapped(answer, wanted)
     for room in sorted({0, enough // 2, enough - 1} - {-1, enough}):
-        yield file, table, room, answer(wanted if wanted[0] in (1, 14, 15) else (16, 0))
+        yield file, table, room, answer(wanted if wanted_in(OLD, wanted)[0] in (1, 14, 15) else (16, 0))
 
 
 VECTORS = [each for vector in WHOLE for each in rooms(*vector)]
-VECTORS += [(file, table, line_count(file), answer(wanted)) for file, table, wanted in offsets.SELECTIONS]
+VECTORS += [
+    (file, table, line_count(file), mapped(answer, wanted)) for file, table, wanted in offsets.SELECTIONS + edition_files.CONDITIONS
+]

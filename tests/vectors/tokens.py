@@ -2,8 +2,12 @@
 
 A vector is an expression, its refusal number (0: none) and the tokens that are read. A token is written as its text, followed by
 its value where it is a number or a truth word; where its place matters, PLACES gives it. The place of a refusal follows from the tokens.
+Both are the same in both editions unless there is a bare word among the tokens: then they are the old edition's, and in the new one the
+first bare word is 3.
 """
 import itertools
+
+from editions import BAD_TOKEN, Differ
 
 # The code of each spelling that has just one.
 SYMBOLS = {
@@ -13,7 +17,7 @@ SYMBOLS = {
     b"&": 29, b"^": 30, b"|": 31, b"&&": 32, b"AND": 32, b"and": 32, b"XOR": 33, b"xor": 33,
     b"||": 34, b"OR": 35, b"or": 35,
 }
-NUMBER, TRUTH, STRING, WIDE, MACRO, PCD = range(6)
+NUMBER, TRUTH, STRING, WIDE, MACRO, PCD, BARE = range(7)
 
 
 def number(text, value):
@@ -38,6 +42,10 @@ def macro(text):
 
 def pcd(text):
     return (PCD, text, 0)
+
+
+def bare(text):
+    return (BARE, text, 0)
 
 
 def op(text):
@@ -238,6 +246,77 @@ VECTORS = [
     (b"'((((((((((((((((('", 0, [string(b"'((((((((((((((((('")]),
 ]
 
+EQUAL = op(b"==")
+# Bare words, and what is none after these four operators.
+VECTORS += [
+    (b"== a", 0, [EQUAL, bare(b"a")]),
+    (b"==a", 0, [EQUAL, bare(b"a")]),
+    (b"!=\t_", 0, [op(b"!="), bare(b"_")]),
+    (b"EQ L", 0, [op(b"EQ"), bare(b"L")]),
+    (b"NE \t And ", 0, [op(b"NE"), bare(b"And")]),
+    (b'"a" == a', 0, [string(b'"a"'), EQUAL, bare(b"a")]),
+    (b"'a'==a", 0, [string(b"'a'"), EQUAL, bare(b"a")]),
+    (b"== a1_", 0, [EQUAL, bare(b"a1_")]),
+    (b"== a18446744073709551616", 0, [EQUAL, bare(b"a18446744073709551616")]),
+    (b"== _0x", 0, [EQUAL, bare(b"_0x")]),
+    (b"== tRUE", 0, [EQUAL, bare(b"tRUE")]),
+    (b"== a#b", 0, [EQUAL, bare(b"a")]),
+    (b"==#a", 0, [EQUAL]),
+    (b"== a == b", 0, [EQUAL, bare(b"a"), EQUAL, bare(b"b")]),
+    (b"==a!=b EQ c", 0, [EQUAL, bare(b"a"), op(b"!="), bare(b"b"), op(b"EQ"), bare(b"c")]),
+    (b"== EQ a", 0, [EQUAL, op(b"EQ"), bare(b"a")]),
+    (b"==!=a", 0, [EQUAL, op(b"!="), bare(b"a")]),
+    (b"== a'b'", 0, [EQUAL, bare(b"a"), string(b"'b'")]),
+    (b"== L 'b'", 0, [EQUAL, bare(b"L"), string(b"'b'")]),  # R42
+    (b"== LL'b'", 0, [EQUAL, bare(b"LL"), string(b"'b'")]),
+    (b"== a(1)", 0, [EQUAL, bare(b"a"), op(b"("), ONE, op(b")")]),
+    (b"== a$(A)", 0, [EQUAL, bare(b"a"), macro(b"$(A)")]),
+    (b"== LABEL", 0, [EQUAL, bare(b"LABEL")]),  # R43
+    # refused after the bare word
+    (b"== a b", 3, [EQUAL, bare(b"a")]),
+    (b"== a-b", 3, [EQUAL, bare(b"a"), op(b"-")]),
+    (b"== foo.1", 3, [EQUAL, bare(b"foo")]),  # R44
+    (b"== foo.", 3, [EQUAL, bare(b"foo")]),
+    (b"== foo .b", 3, [EQUAL, bare(b"foo")]),
+    (b"== a\xe9", 3, [EQUAL, bare(b"a")]),
+    (b"== a 18446744073709551616", 4, [EQUAL, bare(b"a")]),
+    (b"(" * 17 + b"==a", 6, [op(b"(")] * 17 + [EQUAL, bare(b"a")]),
+    (b"==a" + b"(" * 17, 6, [EQUAL, bare(b"a")] + [op(b"(")] * 17),
+    # no bare word
+    (b"a == 'a'", 3, []),  # R45
+    (b"a == a", 3, []),
+    (b"== (a)", 3, [EQUAL, op(b"(")]),  # R45
+    (b"== !a", 3, [EQUAL, op(b"!")]),  # R45
+    (b"< a", 3, [op(b"<")]),
+    (b"<= a", 3, [op(b"<=")]),
+    (b"=== a", 3, [EQUAL]),
+    (b"== = a", 3, [EQUAL]),
+    (b"EQa", 3, []),
+    (b"EQ1", 3, []),
+    (b"== 1a", 3, [EQUAL]),
+    (b"== L'b", 3, [EQUAL]),  # R42
+    (b"== L'b'", 0, [EQUAL, wide(b"L'b'")]),
+    (b"== foo.bar", 0, [EQUAL, pcd(b"foo.bar")]),  # R46
+    (b"== foo.bar.1", 3, [EQUAL, pcd(b"foo.bar")]),
+    (b"EQ.x", 0, [pcd(b"EQ.x")]),
+    (b"EQ.x a", 3, [pcd(b"EQ.x")]),
+    (b"== TRUE", 0, [EQUAL, truth(b"TRUE", 1)]),  # R46
+    (b"== false", 0, [EQUAL, truth(b"false", 0)]),
+    # token 200, and what follows it
+    (b"-" * 197 + b"==a", 0, [op(b"-")] * 197 + [EQUAL, bare(b"a")]),
+    (b"-" * 198 + b"==a", 0, [op(b"-")] * 198 + [EQUAL, bare(b"a")]),
+    (b"-" * 198 + b"==a # b", 0, [op(b"-")] * 198 + [EQUAL, bare(b"a")]),
+    (b"-" * 198 + b"==a b", 5, [op(b"-")] * 198 + [EQUAL, bare(b"a")]),
+    (b"-" * 198 + b"==a.1", 5, [op(b"-")] * 198 + [EQUAL, bare(b"a")]),  # R44
+    (b"-" * 199 + b"==a", 5, [op(b"-")] * 199 + [EQUAL]),
+    (b"-" * 198 + b"==L'b", 3, [op(b"-")] * 198 + [EQUAL]),  # R42
+    (b"-" * 199 + b"==L'b", 5, [op(b"-")] * 199 + [EQUAL]),
+    # the length
+    (b"==" + b"x" * 1022, 0, [EQUAL, bare(b"x" * 1022)]),
+    (b"==" + b"x" * 1023, 2, []),
+]
+VECTORS += [(b"NE " + word, 0, [op(b"NE"), op(word)]) for word in SYMBOLS if word.isalpha()]  # R46
+
 # The bytes next to the ranges of letters and digits are in no name.
 for beside in (b"@", b"[", b"`", b"{", b"/", b":"):
     VECTORS += [
@@ -284,3 +363,12 @@ def place(refusal, tokens, expression):
         depths = list(itertools.accumulate({b"(": 1, b")": -1}.get(text, 0) for _, text, _ in tokens))
         return read[depths.index(17)][1]
     return 0
+
+
+def answer(expression, refusal, read):
+    """The answer of a vector: the refusal's number and place, and the tokens with their places."""
+    in_old = refusal, place(refusal, read, expression), expected(read, expression)
+    before = list(itertools.takewhile(lambda token: token[0] != BARE, read))
+    if before == read:
+        return in_old
+    return Differ(in_old, (BAD_TOKEN, place(BAD_TOKEN, before, expression), expected(before, expression)))

@@ -13,7 +13,10 @@ const HELP: (&str, &str) = (
 );
 
 const REST: &str = "
-A setting is NAME=VALUE: a macro or a PCD, and a number, a truth word, a \"string\", an L\"string\" or a bare word. NAME alone is 1.
+A setting is NAME=VALUE: a macro or a PCD, and a number, a truth word, a \"string\", an L\"string\" or a word. NAME alone is 1.
+The language has two editions. The new one refuses what EDK II's specification says may go: a bare word as a string after == or !=,
+and $(NAME) after !ifdef. The old one is the default: existing files use both, and it accepts all that the new one accepts, with the
+same answers.
 Exit status: 0 an answer; 1 a refusal by the rules, or a note under --strict; 2 wrong usage, a file that cannot be read or written,
 or a wrong setting.
 

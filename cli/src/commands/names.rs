@@ -3,27 +3,34 @@
 mod index;
 mod shown;
 
+use super::edition::edition;
 use super::request::Request;
 use super::subcommand::{Operand, Subcommand};
 use crate::examined::Examined;
+use crate::library::Terms;
 use crate::terminal::{end, object, print, Error};
 use index::Index;
 
 pub static NAMES: Subcommand = Subcommand {
     name: "names",
-    usage: "[-D NAME[=VALUE]].. [-U NAME].. [-s SETTINGS].. [-t TABLE] [--json] FILE..",
+    usage: "[-D NAME[=VALUE]].. [-U NAME].. [-s SETTINGS].. [-t TABLE] [--edition old|new] [--json] FILE..",
     summary: "the macros and PCDs that description files name",
     about: "Lists every macro and every PCD that the directives of the files name, read or not: its value, or that it is not set, and the
 lines that name it. FILE - is standard input.",
     example: r"printf '!if $(WEEK) LE 5\n  Watchdog.inf\n!endif\n' | korzhinay names -D WEEK=3 -",
-    options: &["--define", "--undefine", "--settings", "--table", "--json", "--help"],
+    options: &["--define", "--undefine", "--settings", "--table", "--edition", "--json", "--help"],
     operand: Operand::Files,
     run,
 };
 
 fn run(request: &Request) -> Result<(), Error> {
+    let edition = edition(request)?;
     let table = request.sources().merged()?;
-    let files = Examined::all(request.operands(), &table)?;
+    let terms = Terms {
+        table: &table,
+        edition,
+    };
+    let files = Examined::all(request.operands(), terms)?;
     let index = Index::new(&files);
     let answer = match request.has("--json") {
         true => object(NAMES.name, shown::members(&index, &files, &table)),

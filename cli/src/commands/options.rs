@@ -21,12 +21,13 @@ pub enum Completion {
     Nothing,
     Files,
     DatumTypes,
+    Editions,
 }
 
-use Completion::{DatumTypes, Files, Nothing};
+use Completion::{DatumTypes, Editions, Files, Nothing};
 
 /// Every option that some subcommand takes, in the order in which they are listed.
-pub static OPTIONS: [OptionSpec; 14] = [
+pub static OPTIONS: [OptionSpec; 16] = [
     OptionSpec {
         long: "--define",
         short: "-D",
@@ -60,6 +61,15 @@ pub static OPTIONS: [OptionSpec; 14] = [
         completion: Files,
         about: "starts from a ready table, records of 128 bytes",
         manual: "A ready table, as described below.",
+    },
+    OptionSpec {
+        long: "--edition",
+        short: "",
+        value: "old|new",
+        completion: Editions,
+        about: "the edition of the language; old, the default, accepts all that new does, with the same answers",
+        manual: "The edition of the language, as described below. old is the default: whatever the new edition accepts, the old one \
+                 accepts with the same answer, and the files that exist use what only the old one accepts.",
     },
     OptionSpec {
         long: "--output",
@@ -112,6 +122,15 @@ pub static OPTIONS: [OptionSpec; 14] = [
         completion: Nothing,
         about: "prints one JSON object, also if something is refused",
         manual: "Prints one JSON object, as described below, also if something is refused.",
+    },
+    OptionSpec {
+        long: "--warn-old",
+        short: "",
+        value: "",
+        completion: Nothing,
+        about: "notes each place that the new edition would refuse; with --edition new there is none",
+        manual: "Gives a note for each bare word, and for each $(NAME) after !ifdef or !ifndef, that is read and that the new edition \
+                 would refuse, with what to write instead. With --edition new there is nothing to note.",
     },
     OptionSpec {
         long: "--quiet",

@@ -3,17 +3,19 @@
 mod forms;
 mod report;
 
+use super::edition::edition;
 use super::output;
 use super::request::Request;
 use super::subcommand::{Operand, Subcommand};
 use crate::examined::Examined;
+use crate::library::Terms;
 use crate::terminal::{has_colours, say, write, Error};
 use report::Report;
 
 pub static SELECT: Subcommand = Subcommand {
     name: "select",
-    usage: "[-D NAME[=VALUE]].. [-U NAME].. [-s SETTINGS].. [-t TABLE] \
-            [--annotate | --marks | --keep-lines | --json] [--quiet | --strict] [-o OUT] FILE..",
+    usage: "[-D NAME[=VALUE]].. [-U NAME].. [-s SETTINGS].. [-t TABLE] [--edition old|new] \
+            [--annotate | --marks | --keep-lines | --json] [--warn-old] [--quiet | --strict] [-o OUT] FILE..",
     summary: "the lines of description files that are kept",
     about: "Prints the lines of description files that are kept, byte for byte. FILE - is standard input.
 Marks: 0 a dropped line, 1 a kept one; of directives 2 not read, 3 branch not taken, 4 branch taken, 5 a read !endif.
@@ -25,11 +27,13 @@ Notes on standard error name what may be a slip: macros that are not set, settin
         "--undefine",
         "--settings",
         "--table",
+        "--edition",
         "--output",
         "--annotate",
         "--marks",
         "--keep-lines",
         "--json",
+        "--warn-old",
         "--quiet",
         "--strict",
         "--help",
@@ -43,16 +47,21 @@ fn run(request: &Request) -> Result<(), Error> {
     let form = request.at_most_one(&forms).map_err(Error::Usage)?;
     let loudness = request.at_most_one(&["--quiet", "--strict"]);
     let loudness = loudness.map_err(Error::Usage)?;
+    let edition = edition(request)?;
     let output = request.one("--output").unwrap_or(b"-");
     let inputs = request.all("--settings").chain(request.one("--table"));
     output::check(output, inputs.chain(request.operands().iter().copied()))?;
 
     let settings = request.sources().settings()?;
-    let files = Examined::all(request.operands(), &settings.table)?;
+    let terms = Terms {
+        table: &settings.table,
+        edition,
+    };
+    let files = Examined::all(request.operands(), terms)?;
 
     let report = match loudness {
         Some("--quiet") => Report::without_notes(&files),
-        _ => Report::new(&files, &settings),
+        _ => Report::new(&files, &settings, request.has("--warn-old")),
     };
     let is_refused = files.iter().any(|file| file.outcome.is_err());
     let is_strict = loudness == Some("--strict") && report.count() > 0;

@@ -1,30 +1,35 @@
 //! `tokens`: the tokens of an expression.
 
+use super::edition::edition;
 use super::request::Request;
 use super::subcommand::{Operand, Subcommand};
-use crate::library::{self, token, Token, Tokens};
+use crate::library::{self, token, Terms, Token, Tokens};
 use crate::refusals::of_expression;
 use crate::terminal::{end, escaped, print, print_answer, Error, Json};
 
 pub static TOKENS: Subcommand = Subcommand {
     name: "tokens",
-    usage: "[--json] EXPRESSION",
+    usage: "[--edition old|new] [--json] EXPRESSION",
     summary: "the tokens of an expression",
     about: "Lists the tokens of an expression: where each starts, how many bytes it has, what it is, its text and, of a number or a
 truth word, its value.",
     example: "korzhinay tokens '$(WEEK) GE 0x30'",
-    options: &["--json", "--help"],
+    options: &["--edition", "--json", "--help"],
     operand: Operand::Expression,
     run,
 };
 
 fn run(request: &Request) -> Result<(), Error> {
     let expression = request.operand();
-    let Tokens { read, refusal } = library::tokens(expression);
+    // No table has a part in tokens and their refusals.
+    let terms = Terms {
+        table: b"",
+        edition: edition(request)?,
+    };
+    let Tokens { read, refusal } = library::tokens(expression, terms.edition);
     let outcome = match refusal {
         None => Ok(()),
-        // No table has a part in tokens and their refusals.
-        Some(refusal) => Err(of_expression(expression, b"", &refusal)),
+        Some(refusal) => Err(of_expression(expression, terms, &refusal)),
     };
     if request.has("--json") {
         let objects = read.iter().map(|token| object(expression, token));
@@ -77,6 +82,7 @@ fn code_in_words(code: u8) -> &'static str {
         token::WIDE => "wide string",
         token::MACRO => "macro",
         token::PCD => "PCD",
+        token::BARE => "bare word",
         token::OPEN | token::CLOSE => "parenthesis",
         token::QUESTION | token::COLON => "choice",
         _ => "operator",

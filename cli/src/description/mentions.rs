@@ -2,7 +2,7 @@
 
 use super::directive::{directive, first_byte};
 use super::runs::split_run;
-use crate::library::{self, refusal, single_token, token, Refusal, Token};
+use crate::library::{self, refusal, single_token, token, Edition, Refusal, Token};
 
 /// A macro or a PCD in a directive.
 pub struct Mention<'a> {
@@ -31,7 +31,8 @@ impl Sort {
     }
 }
 
-/// What a line names if it is a directive: those tokens of its expression, or the macro of its `!ifdef`.
+/// What a line names if it is a directive: those tokens of its expression, or the macro of its `!ifdef`, with or without `$(` and `)`. It
+/// is the same in both editions: a bare word, which is no token in the new one, is passed over in both.
 pub fn mentions(line: &[u8]) -> Vec<Mention<'_>> {
     let Some(found) = directive(line) else {
         return Vec::new();
@@ -73,7 +74,7 @@ fn tokens(argument: &[u8]) -> Vec<Token> {
     let mut all = Vec::new();
     let mut start = 0;
     loop {
-        let found = library::tokens(&argument[start..]);
+        let found = library::tokens(&argument[start..], Edition::Old);
         let moved = |token: Token| Token {
             start: start + token.start,
             ..token

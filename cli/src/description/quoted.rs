@@ -1,31 +1,24 @@
 //! Macros in quotes, which EDK II's build tools replace and the rules do not.
 
-use super::directive::directive;
+use super::directive::condition;
 use super::mentions::is_macro_name;
-use crate::library::{self, token};
+use crate::library::{self, token, Edition};
 
-/// The names in the strings of a directive's expression, each with the offset of its `$(` in the line.
+/// The names in the strings of a directive's expression, each with the offset of its `$(` in the line. The directive is accepted, so its
+/// tokens are those of the old edition in any case.
 pub fn quoted_macros(line: &[u8]) -> Vec<(usize, &[u8])> {
-    let Some(found) = directive(line).filter(|found| is_condition(found.word)) else {
-        return Vec::new();
-    };
-    let argument = &line[found.text..];
     let mut names = Vec::new();
-    if !argument.iter().any(|byte| matches!(byte, b'"' | b'\'')) {
+    let has_quotes = |text: &[u8]| text.iter().any(|byte| matches!(byte, b'"' | b'\''));
+    let Some((at, argument)) = condition(line).filter(|(_, text)| has_quotes(text)) else {
         return names;
-    }
-    for token in library::tokens(argument).read {
+    };
+    for token in library::tokens(argument, Edition::Old).read {
         if matches!(token.code, token::STRING | token::WIDE) {
-            let start = found.text + token.start;
+            let start = at + token.start;
             names.extend(in_string(&line[start..][..token.len], start));
         }
     }
     names
-}
-
-/// Whether a word takes an expression.
-fn is_condition(word: &[u8]) -> bool {
-    matches!(word, b"if" | b"elseif" | b"elif")
 }
 
 /// The names in a string that starts at an offset.

@@ -1,6 +1,7 @@
 //! The completion for bash.
 
 use crate::commands::datum::DATUM_TYPES;
+use crate::commands::edition::EDITIONS;
 use crate::commands::options::{Completion, OptionSpec, OPTIONS};
 use crate::commands::subcommand::{Operand, Subcommand};
 use crate::commands::SUBCOMMANDS;
@@ -83,16 +84,19 @@ fn forms(option: &'static OptionSpec) -> String {
     format!("{} {}", option.short, option.long).trim().into()
 }
 
+/// What offers these words.
+fn words(names: &[&str]) -> String {
+    format!("_korzhinay_words \"$word\" '{}'; ", names.join(" "))
+}
+
 /// What is offered after an option that takes a value.
 fn value(option: &'static OptionSpec) -> Option<String> {
     let offered = match (option.value, option.completion) {
         ("", _) => return None,
         (_, Completion::Nothing) => String::new(),
         (_, Completion::Files) => "_korzhinay_files \"$word\"; ".into(),
-        (_, Completion::DatumTypes) => {
-            let names = DATUM_TYPES.each_ref().map(|datum| datum.name);
-            format!("_korzhinay_words \"$word\" '{}'; ", names.join(" "))
-        }
+        (_, Completion::DatumTypes) => words(&DATUM_TYPES.each_ref().map(|datum| datum.name)),
+        (_, Completion::Editions) => words(&EDITIONS.map(|(name, _)| name)),
     };
     let forms = forms(option).replace(' ', " | ");
     Some(format!("        {forms}) {offered}return ;;\n"))

@@ -3,7 +3,7 @@
 use bindings::kind;
 
 use super::limit::MAX_FIELD_BYTES;
-use super::{Refusal, Value};
+use super::{Refusal, Terms, Value};
 
 /// The value of an expression, and how many operators were applied for it.
 pub struct Evaluation<'a> {
@@ -11,10 +11,11 @@ pub struct Evaluation<'a> {
     pub operators: u64,
 }
 
-/// The value of an expression under a table.
-pub fn evaluate<'a>(expression: &'a [u8], table: &'a [u8]) -> Result<Evaluation<'a>, Refusal> {
+/// The value of an expression.
+pub fn evaluate<'a>(expression: &'a [u8], terms: Terms<'a>) -> Result<Evaluation<'a>, Refusal> {
+    let Terms { table, edition } = terms;
     let mut out = [0; 7];
-    let refusal = bindings::evaluate(expression, table, &mut out);
+    let refusal = bindings::evaluate(expression, table, edition.dialect(), &mut out);
     let [found, number, operators, memory, start, len, offset] = out;
     if refusal != 0 {
         return Err(Refusal::of_expression(refusal, offset));
@@ -29,10 +30,11 @@ pub fn evaluate<'a>(expression: &'a [u8], table: &'a [u8]) -> Result<Evaluation<
 }
 
 /// The bytes of a data field.
-pub fn field(expression: &[u8], table: &[u8], datum: u8) -> Result<Vec<u8>, Refusal> {
+pub fn field(expression: &[u8], terms: Terms, datum: u8) -> Result<Vec<u8>, Refusal> {
+    let (table, dialect) = (terms.table, terms.edition.dialect());
     let mut buffer = vec![0; MAX_FIELD_BYTES];
     let mut out = [0; 2];
-    let refusal = bindings::field(&mut buffer, expression, table, datum, &mut out);
+    let refusal = bindings::field(&mut buffer, expression, table, datum, dialect, &mut out);
     let [written, offset] = out;
     if refusal != 0 {
         return Err(Refusal::of_expression(refusal, offset));

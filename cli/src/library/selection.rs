@@ -1,7 +1,7 @@
 //! Selections of the lines of files.
 
 use super::limit::MAX_LINES;
-use super::Refusal;
+use super::{Refusal, Terms};
 
 /// The lines of a file that was accepted.
 pub struct Selection {
@@ -12,10 +12,11 @@ pub struct Selection {
 }
 
 /// The selection of the lines of a file.
-pub fn select(file: &[u8], table: &[u8]) -> Result<Selection, Refusal> {
+pub fn select(file: &[u8], terms: Terms) -> Result<Selection, Refusal> {
+    let Terms { table, edition } = terms;
     let mut marks = vec![0; MAX_LINES];
     let mut out = [0; 4];
-    let number = bindings::select(&mut marks, file, table, &mut out);
+    let number = bindings::select(&mut marks, file, table, edition.dialect(), &mut out);
     let [line, lines, operators, offset] = out;
     if number != 0 {
         return Err(Refusal {

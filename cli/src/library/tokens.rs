@@ -1,7 +1,7 @@
 //! Tokens of expressions.
 
 use super::limit::MAX_TOKENS;
-use super::Refusal;
+use super::{Edition, Refusal};
 
 /// One token of an expression.
 pub struct Token {
@@ -18,7 +18,7 @@ pub struct Tokens {
 }
 
 /// The tokens of an expression.
-pub fn tokens(expression: &[u8]) -> Tokens {
+pub fn tokens(expression: &[u8], edition: Edition) -> Tokens {
     let mut out = [0; 3];
     let mut codes = [0; MAX_TOKENS];
     let mut starts = [0; MAX_TOKENS];
@@ -26,6 +26,7 @@ pub fn tokens(expression: &[u8]) -> Tokens {
     let mut values = [0; MAX_TOKENS];
     bindings::tokens(
         expression,
+        edition.dialect(),
         &mut out,
         &mut codes,
         &mut starts,
@@ -45,9 +46,9 @@ pub fn tokens(expression: &[u8]) -> Tokens {
     }
 }
 
-/// The token that a text is as a whole, if it is one.
+/// The token that a text is as a whole, if it is one. A bare word has a token before it, so this is the same in both editions.
 pub fn single_token(text: &[u8]) -> Option<Token> {
-    let found = tokens(text);
+    let found = tokens(text, Edition::New);
     let [token] = <[Token; 1]>::try_from(found.read).ok()?;
     (found.refusal.is_none() && token.len == text.len()).then_some(token)
 }

@@ -18,7 +18,7 @@ pub struct Note {
 
 impl Note {
     /// The note in one line, as compilers write theirs, so that editors find the place.
-    pub fn message(&self) -> String {
+    fn message(&self) -> String {
         let (line, column, text) = (self.line, self.column, &self.text);
         match &self.file {
             Some(file) => format!("{}:{line}:{column}: note: {text}\n", escaped(file)),
@@ -26,7 +26,7 @@ impl Note {
         }
     }
 
-    pub fn json(&self) -> Json {
+    fn json(&self) -> Json {
         let text = |bytes: &Option<Vec<u8>>| bytes.as_ref().map_or(Json::Null, Json::text);
         Json::Object(vec![
             ("kind", Json::text(self.kind)),
@@ -37,4 +37,14 @@ impl Note {
             ("text", Json::text(&self.text)),
         ])
     }
+}
+
+/// Notes as standard error has them.
+pub fn messages(notes: &[Note]) -> String {
+    notes.iter().map(Note::message).collect()
+}
+
+/// Notes as --json has them.
+pub fn json(notes: &[Note]) -> Json {
+    Json::List(notes.iter().map(Note::json).collect())
 }

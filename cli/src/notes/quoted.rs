@@ -7,11 +7,11 @@ use crate::description::quoted_macros;
 use crate::examined::Examined;
 use crate::terminal::escaped;
 
-/// One note for each name that is in a string of a read directive, at its first place.
-pub fn notes(file: &Examined) -> Vec<Note> {
+/// One note for each name that is in a string of these read directives, at its first place.
+pub fn notes(file: &Examined, read: &[(usize, &[u8])]) -> Vec<Note> {
     let mut seen = HashSet::new();
     let mut notes = Vec::new();
-    for (line, text) in file.read_lines() {
+    for &(line, text) in read {
         for (offset, name) in quoted_macros(text) {
             if seen.insert(name) {
                 notes.push(Note {

@@ -3,16 +3,16 @@
 use super::expression::{of_expression, NAME};
 use super::message::Message;
 use super::values::described;
-use crate::library::{refusal, Refusal};
+use crate::library::{refusal, Refusal, Terms};
 use crate::terminal::{escaped, Error};
 
 /// The refusal of the field of an expression, for a datum type and what that takes.
-pub fn of_field(expression: &[u8], table: &[u8], datum: (&[u8], &str), refusal: &Refusal) -> Error {
+pub fn of_field(expression: &[u8], terms: Terms, datum: (&[u8], &str), refusal: &Refusal) -> Error {
     // Those below it are of the expression.
     if refusal.number < refusal::DATUM_UNKNOWN {
-        return of_expression(expression, table, refusal);
+        return of_expression(expression, terms, refusal);
     }
-    let value = described(expression, table);
+    let value = described(expression, terms);
     let (datum, taken) = (escaped(datum.0), datum.1);
     let message = Message {
         name: NAME,

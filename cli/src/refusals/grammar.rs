@@ -2,11 +2,11 @@
 
 use super::brief::brief;
 use super::operands::follows_operand;
-use crate::library::{self, token, Token};
+use crate::library::{self, token, Terms, Token};
 
 /// What is missing at an offset: that of the first token which cannot come there, or the end of the expression.
-pub fn missing(expression: &[u8], offset: usize) -> Option<String> {
-    let tokens = library::tokens(expression).read;
+pub fn missing(expression: &[u8], terms: Terms, offset: usize) -> Option<String> {
+    let tokens = library::tokens(expression, terms.edition).read;
     let at = tokens.partition_point(|token| token.start < offset);
     let text = |token: &Token| brief(&expression[token.start..][..token.len]);
     let open = innermost(&tokens[..at]);

@@ -2,31 +2,51 @@
 
 use std::ops::Range;
 
-use crate::library::{self, token, Token};
+use crate::library::{self, token, Terms, Token};
 
 /// An operator with its operands, from left to right; `?` has three.
 pub struct Operation<'a> {
     pub code: u8,
     pub spelling: &'a [u8],
-    pub operands: Vec<&'a [u8]>,
+    /// Each as an expression by itself: a bare word at its front is in quotes.
+    pub operands: Vec<Vec<u8>>,
+    /// The operand that is a bare word: no operator has two.
+    pub bare_word: Option<&'a [u8]>,
 }
 
 /// The operator that starts at an offset.
-pub fn operation(expression: &[u8], offset: usize) -> Option<Operation<'_>> {
-    let tokens = library::tokens(expression).read;
+pub fn operation<'a>(expression: &'a [u8], terms: Terms, offset: usize) -> Option<Operation<'a>> {
+    let tokens = library::tokens(expression, terms.edition).read;
     let at = tokens.iter().position(|token| token.start == offset)?;
     let text = |part: Range<usize>| {
         let (first, last) = (tokens.get(part.start)?, tokens.get(part.end - 1)?);
         expression.get(first.start..last.start + last.len)
     };
+    let is_bare = |at: usize| {
+        tokens
+            .get(at)
+            .is_some_and(|token| token.code == token::BARE)
+    };
+    let alone = |part: Range<usize>| match is_bare(part.start) {
+        true => quoted(text(part.clone())?, tokens[part.start].len),
+        false => Some(text(part)?.to_vec()),
+    };
+    let parts = parts(&tokens, at);
+    let bare_word = parts
+        .iter()
+        .find(|part| part.len() == 1 && is_bare(part.start));
     Some(Operation {
         code: tokens[at].code,
         spelling: text(at..at + 1)?,
-        operands: parts(&tokens, at)
-            .into_iter()
-            .map(text)
-            .collect::<Option<_>>()?,
+        bare_word: bare_word.and_then(|part| text(part.clone())),
+        operands: parts.into_iter().map(alone).collect::<Option<_>>()?,
     })
+}
+
+/// A text with quotes round the word of this length at its front.
+fn quoted(text: &[u8], len: usize) -> Option<Vec<u8>> {
+    let (word, rest) = text.split_at_checked(len)?;
+    Some([b"\"", word, b"\"", rest].concat())
 }
 
 /// The tokens of each operand.
@@ -73,7 +93,7 @@ fn level(tokens: &[Token], at: usize) -> Option<u8> {
 /// Whether the token before this one ends an operand.
 pub fn follows_operand(tokens: &[Token], at: usize) -> bool {
     let before = at.checked_sub(1).map(|before| tokens[before].code);
-    before.is_some_and(|code| code <= token::PCD || code == token::CLOSE)
+    before.is_some_and(|code| code <= token::BARE || code == token::CLOSE)
 }
 
 /// Where the left operand of an operator of this level starts: operators to its left that bind as tight or tighter belong to it.

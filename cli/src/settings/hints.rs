@@ -1,10 +1,10 @@
 //! Why a text is no value, and what to write instead.
 
 use super::blanks::trim;
-use crate::library::{self, refusal, token};
+use crate::library::{self, refusal, token, Edition};
 use crate::terminal::escaped;
 
-/// A text that starts like a bare word and has another byte at `at`.
+/// A text that starts like a word and has another byte at `at`.
 pub fn no_word(text: &[u8], at: usize) -> String {
     match text[at] {
         b' ' | b'\t' if text.contains(&b'"') || text.contains(&b'\'') => {
@@ -23,7 +23,7 @@ pub fn no_word(text: &[u8], at: usize) -> String {
 
 /// A text that is no literal.
 pub fn no_literal(text: &[u8]) -> String {
-    let found = library::tokens(text);
+    let found = library::tokens(text, Edition::New);
     let first = found.read.first();
     let refusal = found.refusal.map(|refusal| refusal.number);
     match (refusal, first.filter(|first| is_literal(first.code))) {

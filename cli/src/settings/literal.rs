@@ -1,4 +1,4 @@
-//! The value of a setting: what the library reads as one literal, or a bare word.
+//! The value of a setting: what the library reads as one literal, or a word without quotes. It is the same in both editions.
 
 use super::hints;
 use crate::library::{single_token, token, Value};
@@ -25,7 +25,7 @@ fn literal(text: &[u8]) -> Result<Value<'_>, String> {
     }
 }
 
-/// A bare word: a truth word is a number, any other a string.
+/// A word without quotes: a truth word is a number, any other a string.
 fn word(text: &[u8]) -> Result<Value<'_>, String> {
     if let Some(at) = text.iter().position(|byte| !is_in_word(*byte)) {
         return Err(hints::no_word(text, at));
@@ -34,7 +34,7 @@ fn word(text: &[u8]) -> Result<Value<'_>, String> {
     Ok(truth.map_or(Value::String(text), |token| Value::Number(token.value)))
 }
 
-/// Whether a byte may be in a bare word.
+/// Whether a byte may be in a word.
 fn is_in_word(byte: u8) -> bool {
     byte.is_ascii_alphanumeric() || b"_.-+/\\:,".contains(&byte)
 }

@@ -2,11 +2,11 @@
 use Prim.Native.Nat.{ℕ, zero, suc}
 use native.Mathlib.Omega.{arith}
 use mathlib.Core.Path.{_≡_, refl, ap₂, fun-ext}
-use mathlib.Core.Bool.{false≢true}
+use mathlib.Core.Bool.{Bool, false, false≢true}
 use mathlib.Core.List.{List, [], _∷_}
 use lib.ListN.{length, getD}
 use Rattle.units.specs.Refusals.{BAR-OUTSIDE}
-use Rattle.units.specs.Dialects.{STRICT, inDirectives}
+use Rattle.units.specs.Dialects.{byItself, inDirectives}
 use Rattle.units.specs.declared.Dialect.{Dialect}
 use Rattle.units.specs.declared.Offset.{Offset}
 use Rattle.units.specs.declared.Where.{Where}
@@ -32,11 +32,11 @@ use Rattle.answers.proofs.AnswersExact.{derived, kind-sound}
 use Rattle.answers.proofs.RefusalNumbers.{InAnswer, in-check-then-answer}
 
 -- the tokens of an expression do not depend on the rule
-same-lexeme : (s : List ℕ) (δ : Dialect) → lexeme s (inDirectives δ) ≡ lexeme s δ
+same-lexeme : (after : Bool) (s : List ℕ) (δ : Dialect) → lexeme after s (inDirectives δ) ≡ lexeme after s δ
 unfolding lexeme lexemeBy wordOf
-same-lexeme s δ = by (classOf (getD s 0 0))
+same-lexeme after s δ = by (classOf (getD s 0 0))
   where
-    by : (c : Class) → lexemeBy c s (inDirectives δ) ≡ lexemeBy c s δ
+    by : (c : Class) → lexemeBy c after s (inDirectives δ) ≡ lexemeBy c after s δ
     by Initial = refl
     by Digit = refl
     by Quote = refl
@@ -46,17 +46,18 @@ same-lexeme s δ = by (classOf (getD s 0 0))
     by Blank = refl
     by Comment = refl
 
-same-from : (at room inside : ℕ) (s : List ℕ) (δ : Dialect) → readFrom at room inside s (inDirectives δ) ≡ readFrom at room inside s δ
+same-from : (at room inside : ℕ) (after : Bool) (s : List ℕ) (δ : Dialect)
+    → readFrom at room inside after s (inDirectives δ) ≡ readFrom at room inside after s δ
 unfolding readFrom
-same-from at room inside [] δ = refl
-same-from at room (suc inside) (b ∷ s) δ = same-from (suc at) room inside s δ
-same-from at room zero (b ∷ s) δ =
-    ap₂ (λ x rest. readByte (classOf b) room x at rest) (same-lexeme (b ∷ s) δ)
-    (fun-ext (λ room′. fun-ext (λ inside′. same-from (suc at) room′ inside′ s δ)))
+same-from at room inside after [] δ = refl
+same-from at room (suc inside) after (b ∷ s) δ = same-from (suc at) room inside after s δ
+same-from at room zero after (b ∷ s) δ =
+    ap₂ (λ x rest. readByte (classOf b) after room x at rest) (same-lexeme after (b ∷ s) δ)
+    (fun-ext (λ room′. fun-ext (λ inside′. fun-ext (λ after′. same-from (suc at) room′ inside′ after′ s δ))))
 
 pub same-reading : (e : List ℕ) (δ : Dialect) → reading e (inDirectives δ) ≡ reading e δ
 unfolding reading
-same-reading e δ = rw (same-from 0 200 0 e δ)
+same-reading e δ = rw (same-from 0 200 0 false e δ)
 
 -- an answer with another number is not 8
 not-bar : (x : Evaluation) → InAnswer x → refusalNumber x ≡ BAR-OUTSIDE → ⊥
@@ -88,18 +89,18 @@ module _ (m : Memory) (δ : Dialect) where
       (same-ended (reading (m .expression) δ .ending) (reading (m .expression) δ .tokens) h)
 
 -- an expression by itself is refused with 8, at the leftmost bar outside parentheses, exactly if its derivation has one
-module _ (m : Memory) (end : Offset) (complete : reading (m .expression) STRICT .ending ≡ Complete end) where
+module _ (old : Bool) (m : Memory) (end : Offset) (complete : reading (m .expression) (byItself old) .ending ≡ Complete end) where
   abbrev read : List Token
-  read = reading (m .expression) STRICT .tokens
+  read = reading (m .expression) (byItself old) .tokens
 
   module _ (s : Tree Token) (d : Derives codeOf expression read s) where
-    answered : (ks : List Token) → bareBars codeOf d ≡ ks → evaluationIn m STRICT ≡ checkThenAnswer (firstPlace ks) (pcdAt m read) (fold (meaning m) s)
-    answered ks e = rw (← e) (derived m STRICT end complete s d)
+    answered : (ks : List Token) → bareBars codeOf d ≡ ks → evaluationIn m (byItself old) ≡ checkThenAnswer (firstPlace ks) (pcdAt m read) (fold (meaning m) s)
+    answered ks e = rw (← e) (derived m (byItself old) end complete s d)
 
-    pub eight-at : (k : Token) (ks : List Token) → bareBars codeOf d ≡ k ∷ ks → evaluationIn m STRICT ≡ refusedAt BAR-OUTSIDE (k .start)
+    pub eight-at : (k : Token) (ks : List Token) → bareBars codeOf d ≡ k ∷ ks → evaluationIn m (byItself old) ≡ refusedAt BAR-OUTSIDE (k .start)
     eight-at k ks e = answered (k ∷ ks) e
 
-    pub eight-without : bareBars codeOf d ≡ [] → refusalNumber (evaluationIn m STRICT) ≡ BAR-OUTSIDE → ⊥
+    pub eight-without : bareBars codeOf d ≡ [] → refusalNumber (evaluationIn m (byItself old)) ≡ BAR-OUTSIDE → ⊥
     eight-without e h =
         let other = in-check-then-answer (pcdAt m read) (fold (meaning m) s) (kind-sound m s) in
-        not-bar (evaluationIn m STRICT) (rw (answered [] e) other) h
+        not-bar (evaluationIn m (byItself old)) (rw (answered [] e) other) h

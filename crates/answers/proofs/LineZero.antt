@@ -29,7 +29,7 @@ EndsSo (Complete end) = Unit
 
 reads-so : (e : List ℕ) (δ : Dialect) → EndsSo (reading e δ .ending)
 reads-so e δ =
-    every-ending e δ EndsSo (record { complete = λ at h. tt; bad = λ at h s r w. refl; many = λ at h. refl; deep = λ at h. refl; long = refl })
+    every-ending e δ EndsSo (record { complete = λ at h. tt; bad = λ at h q s r w. refl; many = λ at h. refl; deep = λ at h. refl; long = refl })
 
 abbrev LineZero : Evaluation → Type 0
 LineZero x = lineOf x ≡ 0

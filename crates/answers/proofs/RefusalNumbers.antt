@@ -23,7 +23,7 @@ use Rattle.text.proofs.Laws.{pick-case}
 use Rattle.codes.specs.Spellings.{Spelling, words, symbols}
 use Rattle.codes.specs.Codes.{STRING, WIDE}
 use Rattle.literal.specs.Literal.{literal, isDecimal, isHexadecimal, hexadecimalOf, numberOf}
-use Rattle.lexeme.specs.Lexeme.{stringOf, stringAt, spelled, isWide, wordOf, macroOf, begins, leading, lexemeBy, lexeme}
+use Rattle.lexeme.specs.Lexeme.{stringOf, stringAt, spelled, isWide, orBare, wordOf, macroOf, begins, leading, lexemeBy, lexeme}
 use Rattle.codes.specs.declared.Scanned.{Scanned}
 use Rattle.codes.specs.declared.Scanned.the-variants.{Found, Refused as Bad}
 use Rattle.token.specs.Tokens.{Token, reading}
@@ -73,11 +73,16 @@ unfolding spelled
 in-spelled [] w = inl refl
 in-spelled (x ∷ xs) w = pick-case InLexeme (equal w (x .text)) (λ _. tt) (λ _. in-spelled xs w)
 
-in-word : (n : ℕ) (s : List ℕ) (δ : Dialect) → InLexeme (wordOf n s δ)
+in-bare : (bare : Bool) (n : ℕ) (x : Scanned) → InLexeme x → InLexeme (orBare bare n x)
+in-bare bare n (Found f) h = tt
+in-bare true n (Bad r) h = tt
+in-bare false n (Bad r) h = h
+
+in-word : (n : ℕ) (after : Bool) (s : List ℕ) (δ : Dialect) → InLexeme (wordOf n after s δ)
 unfolding wordOf
-in-word n s δ =
+in-word n after s δ =
     pick-case InLexeme (ltb 0 (pcdName s)) (λ _. tt)
-    (λ _. pick-case InLexeme (isWide s n) (λ _. in-string WIDE 1 s) (λ _. in-spelled words (take n s)))
+    (λ _. pick-case InLexeme (isWide s n) (λ _. in-string WIDE 1 s) (λ _. in-bare (after && δ .old) n (spelled words (take n s)) (in-spelled words (take n s))))
 
 in-macro : (n : ℕ) (s : List ℕ) → InLexeme (macroOf n s)
 unfolding macroOf
@@ -88,12 +93,12 @@ unfolding leading
 in-leading [] s = inl refl
 in-leading (x ∷ xs) s = pick-case InLexeme (begins (x .text) s) (λ _. tt) (λ _. in-leading xs s)
 
-pub in-lexeme : (s : List ℕ) (δ : Dialect) → InLexeme (lexeme s δ)
+pub in-lexeme : (after : Bool) (s : List ℕ) (δ : Dialect) → InLexeme (lexeme after s δ)
 unfolding lexeme lexemeBy
-in-lexeme s δ = by (classOf (getD s 0 0))
+in-lexeme after s δ = by (classOf (getD s 0 0))
   where
-    by : (c : Class) → InLexeme (lexemeBy c s δ)
-    by Initial = in-word (span Word s) s δ
+    by : (c : Class) → InLexeme (lexemeBy c after s δ)
+    by Initial = in-word (span Word s) after s δ
     by Digit = in-number (span Word s) s
     by Quote = in-string STRING 0 s
     by Operator = in-leading symbols s
@@ -114,7 +119,7 @@ in-bad r (inr h) = rw h
 in-reading : (e : List ℕ) (δ : Dialect) → InEnding (reading e δ .ending)
 in-reading e δ =
     every-ending e δ InEnding
-    (record { complete = λ at h. tt; bad = λ at h s r w. in-bad r (rw w at (in-lexeme s δ)); many = λ at h. refl; deep = λ at h. refl; long = refl })
+    (record { complete = λ at h. tt; bad = λ at h q s r w. in-bad r (rw w at (in-lexeme q s δ)); many = λ at h. refl; deep = λ at h. refl; long = refl })
 
 -- an expression
 abbrev pub InAnswer : Evaluation → Type 0

@@ -8,7 +8,7 @@ use lib.ListN.{length}
 use lib.Dec.{eqb}
 use borrow.Author.Tests.{eqb-true}
 use Rattle.text.proofs.Laws.{pick-case}
-use Rattle.codes.specs.Codes.{STRING, WIDE, MACRO, PCD}
+use Rattle.codes.specs.Codes.{STRING, WIDE, MACRO, PCD, BARE}
 use Rattle.units.specs.declared.Dialect.{Dialect}
 use Rattle.lookup.specs.Setting.{Within as WithinTable}
 use Rattle.lookup.specs.declared.Value.{Value as CodedValue}
@@ -35,9 +35,10 @@ module _ (m : Memory) (δ : Dialect) where
   primary-in-bounds k w =
       pick-case (InBounds m) (eqb (k .code) STRING) (λ _. (refl, omega arith))
       (λ _. pick-case (InBounds m) (eqb (k .code) WIDE) (λ c. (refl, omega (arith, w .wide (eqb-true (k .code) WIDE c))))
+      (λ _. pick-case (InBounds m) (eqb (k .code) BARE) (λ _. (refl, w .ends))
       (λ _. pick-case (InBounds m) (eqb (k .code) MACRO || eqb (k .code) PCD)
       (λ _. setting-in-bounds (settingOf m k .value) (under-within (m .table) (nameIn (m .expression) k)))
-      (λ _. tt)))
+      (λ _. tt))))
 
   preserves : Preserves (meaning m) (Within (length (m .expression))) (λ a. InBounds m (a .value))
   preserves =

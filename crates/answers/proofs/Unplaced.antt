@@ -62,7 +62,7 @@ reading-zero e δ =
     every-ending e δ EndsZero
     (record {
       complete = λ at h. tt;
-      bad = λ at h s r w. has-place r at (bad-placed r (rw w at (in-lexeme s δ)));
+      bad = λ at h q s r w. has-place r at (bad-placed r (rw w at (in-lexeme q s δ)));
       many = λ at h. has-place TOKENS-MANY at refl;
       deep = λ at h. has-place PARENTHESES-DEEP at refl;
       long = λ e. refl;

@@ -3,8 +3,9 @@
 use Prim.Native.Nat.{ℕ}
 use Prim.Native.String.{String}
 use mathlib.Core.Path.{_≡_, refl}
+use mathlib.Core.Bool.{Bool}
 use mathlib.Core.List.{List, [], _∷_, map}
-use Rattle.units.specs.Dialects.{STRICT}
+use Rattle.units.specs.Dialects.{byItself, OLD}
 use Rattle.units.specs.Refusals.{TOKEN-BAD, LITERAL-LARGE, PARENTHESES-DEEP, NO-DERIVATION, BAR-OUTSIDE, PCD-MISSING, KINDS-UNSUITED}
 use Rattle.units.specs.Refusals.{RESULT-RANGE, DIVISOR-ZERO}
 use Rattle.text.specs.Bytes.{bytes, classOf}
@@ -17,7 +18,7 @@ use Rattle.lexeme.specs.Lexeme.{stringOf, stringAt, spelled, isWide, wordOf, ma
 use Rattle.token.specs.Tokens.{readToken, readByte, readFrom, tooDeep, checkDepth, reading}
 use Rattle.arithmetic.specs.Digits.{andDigits, orDigits}
 use Rattle.arithmetic.specs.Operators.{applyUnary, applyBinary, comparison, compareNumbers}
-use Rattle.codes.specs.Levels.{isUnary, levelOf}
+use Rattle.codes.specs.Levels.{isUnary, levelOf, isEquality}
 use Rattle.grammar.specs.Grammar.{isPrimary}
 use Rattle.grammar.specs.Parse.{run, parse}
 use Rattle.lookup.specs.Setting.{valueAt, settingUnderAt, settingUnder}
@@ -56,9 +57,10 @@ examples =
     ∷ gives "\"thirty\" < \"thirty1\"" 1 1
     ∷ []
 
-pub examples-hold : map (λ x. evaluation (over (bytes (x .expression)) []) STRICT) examples ≡ map (λ x. x .answer) examples
-unfolding evaluation evaluationIn ofTokens barsOutside recordsIn orderedNames ordered plainRecords wellFormed reading readToken readByte readFrom tooDeep checkDepth classOf span compared macroName pcdName digitOf valueIn literal isDecimal isHexadecimal hexadecimalOf numberOf stringOf stringAt spelled isWide wordOf macroOf begins leading lexemeBy lexeme isPrimary isUnary levelOf run parse clashOr unaryKind binaryKind choiceKind andDigits orDigits applyUnary applyBinary comparison compareNumbers valueAt settingUnderAt settingUnder primaryValue missingPcds unaryValue bothValues binaryValue choiceValue
-examples-hold = refl
+-- in both editions
+pub examples-hold : (old : Bool) → map (λ x. evaluation (over (bytes (x .expression)) []) (byItself old)) examples ≡ map (λ x. x .answer) examples
+unfolding evaluation evaluationIn ofTokens barsOutside recordsIn orderedNames ordered plainRecords wellFormed reading isEquality readToken readByte readFrom tooDeep checkDepth classOf span compared macroName pcdName digitOf valueIn literal isDecimal isHexadecimal hexadecimalOf numberOf stringOf stringAt spelled isWide wordOf macroOf begins leading lexemeBy lexeme isPrimary isUnary levelOf run parse clashOr unaryKind binaryKind choiceKind andDigits orDigits applyUnary applyBinary comparison compareNumbers valueAt settingUnderAt settingUnder primaryValue missingPcds unaryValue bothValues binaryValue choiceValue
+examples-hold old = refl
 
 -- refusals with their places (document 02, order 3)
 abbrev pub places : List Example
@@ -89,6 +91,24 @@ places =
     ∷ refuses "1 + 18446744073709551616" LITERAL-LARGE 4
     ∷ []
 
-pub places-hold : map (λ x. evaluation (over (bytes (x .expression)) []) STRICT) places ≡ map (λ x. x .answer) places
-unfolding evaluation evaluationIn ofTokens barsOutside recordsIn orderedNames ordered plainRecords wellFormed reading readToken readByte readFrom tooDeep checkDepth classOf span compared macroName pcdName digitOf valueIn literal isDecimal isHexadecimal hexadecimalOf numberOf stringOf stringAt spelled isWide wordOf macroOf begins leading lexemeBy lexeme isPrimary isUnary levelOf run parse clashOr unaryKind binaryKind choiceKind andDigits orDigits applyUnary applyBinary comparison compareNumbers valueAt settingUnderAt settingUnder primaryValue missingPcds unaryValue bothValues binaryValue choiceValue
-places-hold = refl
+pub places-hold : (old : Bool) → map (λ x. evaluation (over (bytes (x .expression)) []) (byItself old)) places ≡ map (λ x. x .answer) places
+unfolding evaluation evaluationIn ofTokens barsOutside recordsIn orderedNames ordered plainRecords wellFormed reading isEquality readToken readByte readFrom tooDeep checkDepth classOf span compared macroName pcdName digitOf valueIn literal isDecimal isHexadecimal hexadecimalOf numberOf stringOf stringAt spelled isWide wordOf macroOf begins leading lexemeBy lexeme isPrimary isUnary levelOf run parse clashOr unaryKind binaryKind choiceKind andDigits orDigits applyUnary applyBinary comparison compareNumbers valueAt settingUnderAt settingUnder primaryValue missingPcds unaryValue bothValues binaryValue choiceValue
+places-hold old = refl
+
+-- bare words (document 02, order 5): strings of their own bytes, each the first token after an equality operator
+abbrev pub bareWords : List Example
+bareWords =
+    gives "\"b1\" == b1" 1 1
+    ∷ gives "'b' != B" 1 1
+    ∷ gives "\"a\" EQ a AND 1 NE 2" 1 3
+    ∷ gives "0 == b < \"c\"" 0 2
+    ∷ refuses "1 == b" KINDS-UNSUITED 2
+    ∷ refuses "L\"b\" == b" KINDS-UNSUITED 5
+    ∷ refuses "\"b\" == b c" TOKEN-BAD 9
+    ∷ refuses "== b" NO-DERIVATION 0
+    ∷ []
+
+-- in the old edition
+pub bare-words-hold : map (λ x. evaluation (over (bytes (x .expression)) []) OLD) bareWords ≡ map (λ x. x .answer) bareWords
+unfolding evaluation evaluationIn ofTokens barsOutside recordsIn orderedNames ordered plainRecords wellFormed reading isEquality readToken readByte readFrom tooDeep checkDepth classOf span compared macroName pcdName digitOf valueIn literal isDecimal isHexadecimal hexadecimalOf numberOf stringOf stringAt spelled isWide wordOf macroOf begins leading lexemeBy lexeme isPrimary isUnary levelOf run parse clashOr unaryKind binaryKind choiceKind andDigits orDigits applyUnary applyBinary comparison compareNumbers valueAt settingUnderAt settingUnder primaryValue missingPcds unaryValue bothValues binaryValue choiceValue
+bare-words-hold = refl

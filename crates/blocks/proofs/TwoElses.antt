@@ -1,7 +1,8 @@
 -- The lines of a run that is refused with 19 derive no blocks; an example is the file with two `!else`. Assumes nothing.
 use mathlib.Core.Path.{_≡_, sym, _∙_}
+use mathlib.Core.Bool.{true}
 use mathlib.Core.List.{[], _∷_, _++_, append-assoc}
-use Rattle.units.specs.Dialects.{STRICT}
+use Rattle.units.specs.Dialects.{OLD}
 use Rattle.line.specs.Lines.{lines}
 use Rattle.blocks.specs.Blocks.{Derives}
 use Rattle.blocks.specs.Beginnings.{Whole}
@@ -17,4 +18,4 @@ stray-derives-none t δ ls n e w =
     s .6 (s .2, (w .0, d))
 
 pub two-elses-derive-none : Whole (lines twoElses) → ⊥
-two-elses-derive-none = stray-derives-none [] STRICT (lines twoElses) 4 (two-elses-refused .0)
+two-elses-derive-none = stray-derives-none [] OLD (lines twoElses) 4 (two-elses-refused true .0)

@@ -5,7 +5,7 @@ use Prim.Native.Nat.{ℕ}
 use mathlib.Core.Path.{_≡_, refl}
 use mathlib.Core.Bool.{Bool, true, false}
 use mathlib.Core.List.{List, [], _∷_}
-use Rattle.units.specs.Dialects.{STRICT}
+use Rattle.units.specs.Dialects.{byItself}
 use Rattle.units.specs.Refusals.{DIVISOR-ZERO, DIRECTIVE-STRAY, faultAt, unplaced}
 use Rattle.text.specs.Bytes.{bytes, classOf}
 use Rattle.text.specs.Runs.{span}
@@ -19,7 +19,7 @@ use Rattle.lexeme.specs.Lexeme.{stringOf, stringAt, spelled, isWide, wordOf, ma
 use Rattle.token.specs.Tokens.{readToken, readByte, readFrom, tooDeep, checkDepth, reading}
 use Rattle.arithmetic.specs.Digits.{andDigits, orDigits}
 use Rattle.arithmetic.specs.Operators.{applyUnary, applyBinary, comparison, compareNumbers}
-use Rattle.codes.specs.Levels.{isUnary, levelOf}
+use Rattle.codes.specs.Levels.{isUnary, levelOf, isEquality}
 use Rattle.grammar.specs.Grammar.{isPrimary}
 use Rattle.grammar.specs.Parse.{run as runGoal, parse}
 use Rattle.grammar.specs.Bars.{barsOutside}
@@ -66,22 +66,26 @@ pub whole-derives : Derives (lines file) whole
 unfolding onto endsLine lines named wordStart textStart directiveOf span compared classOf
 whole-derives = record { lines = refl; words = (refl, (refl, tt), (refl, (refl, tt), (refl, (refl, tt), refl)), (refl, tt)) }
 
-pub meanings-hold : _≡_ {A = List Meaning}
-    (meaning (setting "FOO" 61 2) true whole STRICT ∷ meaning (setting "FOO" 61 3) true whole STRICT ∷ meaning [] true skipped STRICT ∷ [])
+-- in both editions, here and below
+pub meanings-hold : (old : Bool) → _≡_ {A = List Meaning}
+    (meaning (setting "FOO" 61 2) true whole (byItself old)
+    ∷ meaning (setting "FOO" 61 3) true whole (byItself old)
+    ∷ meaning [] true skipped (byItself old)
+    ∷ [])
     (means (4 ∷ 1 ∷ 2 ∷ 0 ∷ 3 ∷ 0 ∷ 5 ∷ 1 ∷ []) 1 ∷ fault (faultAt DIVISOR-ZERO 10) 2 ∷ means (3 ∷ 2 ∷ 0 ∷ 2 ∷ 0 ∷ 2 ∷ 2 ∷ 4 ∷ 1 ∷ 5 ∷ []) 0 ∷ [])
-unfolding meaning named wordStart textStart directiveOf evaluate ofExpression ofMacro ofNamed nameAt idle ofAnswer evaluationIn ofTokens barsOutside recordsIn littleEndian valueAt settingUnderAt settingUnder reading readToken readByte readFrom tooDeep checkDepth classOf span compared macroName pcdName digitOf valueIn literal isDecimal isHexadecimal hexadecimalOf numberOf stringOf stringAt spelled isWide wordOf macroOf begins leading lexemeBy lexeme isPrimary isUnary levelOf runGoal parse clashOr unaryKind binaryKind choiceKind andDigits orDigits applyUnary applyBinary comparison compareNumbers primaryValue missingPcds unaryValue bothValues binaryValue choiceValue
-meanings-hold = refl
+unfolding meaning named wordStart textStart directiveOf evaluate ofExpression ofMacro ofNamed nameAt idle ofAnswer evaluationIn ofTokens barsOutside recordsIn littleEndian valueAt settingUnderAt settingUnder reading isEquality readToken readByte readFrom tooDeep checkDepth classOf span compared macroName pcdName digitOf valueIn literal isDecimal isHexadecimal hexadecimalOf numberOf stringOf stringAt spelled isWide wordOf macroOf begins leading lexemeBy lexeme isPrimary isUnary levelOf runGoal parse clashOr unaryKind binaryKind choiceKind andDigits orDigits applyUnary applyBinary comparison compareNumbers primaryValue missingPcds unaryValue bothValues binaryValue choiceValue
+meanings-hold old = refl
 
 -- which of their lines are read
-pub readings-hold : _≡_ {A = List (List Bool)}
-    (readsOf (setting "FOO" 61 2) true whole STRICT ∷ readsOf [] true skipped STRICT ∷ [])
+pub readings-hold : (old : Bool) → _≡_ {A = List (List Bool)}
+    (readsOf (setting "FOO" 61 2) true whole (byItself old) ∷ readsOf [] true skipped (byItself old) ∷ [])
     ((true ∷ false ∷ false ∷ false ∷ true ∷ false ∷ true ∷ false ∷ [])
     ∷ (true ∷ false ∷ false ∷ false ∷ false ∷ false ∷ false ∷ true ∷ false ∷ true ∷ [])
     ∷ [])
-unfolding readsOf named wordStart textStart directiveOf evaluate ofExpression ofMacro ofNamed nameAt idle ofAnswer evaluationIn ofTokens barsOutside recordsIn littleEndian valueAt settingUnderAt settingUnder reading readToken readByte readFrom tooDeep checkDepth classOf span compared macroName pcdName digitOf valueIn literal isDecimal isHexadecimal hexadecimalOf numberOf stringOf stringAt spelled isWide wordOf macroOf begins leading lexemeBy lexeme isPrimary isUnary levelOf runGoal parse clashOr unaryKind binaryKind choiceKind andDigits orDigits applyUnary applyBinary comparison compareNumbers primaryValue missingPcds unaryValue bothValues binaryValue choiceValue
-readings-hold = refl
+unfolding readsOf named wordStart textStart directiveOf evaluate ofExpression ofMacro ofNamed nameAt idle ofAnswer evaluationIn ofTokens barsOutside recordsIn littleEndian valueAt settingUnderAt settingUnder reading isEquality readToken readByte readFrom tooDeep checkDepth classOf span compared macroName pcdName digitOf valueIn literal isDecimal isHexadecimal hexadecimalOf numberOf stringOf stringAt spelled isWide wordOf macroOf begins leading lexemeBy lexeme isPrimary isUnary levelOf runGoal parse clashOr unaryKind binaryKind choiceKind andDigits orDigits applyUnary applyBinary comparison compareNumbers primaryValue missingPcds unaryValue bothValues binaryValue choiceValue
+readings-hold old = refl
 
-pub two-elses-refused : (run [] 1 start (lines twoElses) STRICT ≡ refused (unplaced DIRECTIVE-STRAY) 4)
-    × (selection twoElses [] 6 STRICT ≡ refused (unplaced DIRECTIVE-STRAY) 4)
+pub two-elses-refused : (old : Bool) → (run [] 1 start (lines twoElses) (byItself old) ≡ refused (unplaced DIRECTIVE-STRAY) 4)
+    × (selection twoElses [] 6 (byItself old) ≡ refused (unplaced DIRECTIVE-STRAY) 4)
 unfolding selection run step plan settled onto endsLine lines named wordStart textStart directiveOf evaluate ofMacro ofNamed nameAt idle recordsIn orderedNames ordered plainRecords wellFormed littleEndian valueAt settingUnderAt settingUnder classOf span compared macroName pcdName
-two-elses-refused = (refl, refl)
+two-elses-refused old = (refl, refl)

@@ -2,10 +2,10 @@
 use Prim.Native.Nat.{ℕ}
 use Prim.Native.String.{String}
 use mathlib.Core.Path.{_≡_, refl}
-use mathlib.Core.Bool.{true}
+use mathlib.Core.Bool.{Bool, true}
 use mathlib.Core.List.{List, [], _∷_, _++_, map}
 use lib.ListN.{replicate}
-use Rattle.units.specs.Dialects.{STRICT}
+use Rattle.units.specs.Dialects.{byItself, NEW, OLD}
 use Rattle.units.specs.Refusals.{NO-DERIVATION, CONDITION-VALUE, TEXT-MALFORMED, faultAt, unplaced}
 use Rattle.text.specs.Bytes.{bytes, classOf}
 use Rattle.text.specs.Runs.{span}
@@ -19,7 +19,7 @@ use Rattle.lexeme.specs.Lexeme.{stringOf, stringAt, spelled, isWide, wordOf, ma
 use Rattle.token.specs.Tokens.{readToken, readByte, readFrom, tooDeep, checkDepth, reading}
 use Rattle.arithmetic.specs.Digits.{andDigits, orDigits}
 use Rattle.arithmetic.specs.Operators.{applyUnary, applyBinary, comparison, compareNumbers}
-use Rattle.codes.specs.Levels.{isUnary, levelOf}
+use Rattle.codes.specs.Levels.{isUnary, levelOf, isEquality}
 use Rattle.grammar.specs.Grammar.{isPrimary}
 use Rattle.grammar.specs.Parse.{run, parse}
 use Rattle.grammar.specs.Bars.{barsOutside}
@@ -60,22 +60,19 @@ conditions =
     ∷ reads Elseif " 1 |" (Refused (faultAt NO-DERIVATION 4))
     ∷ []
 
-conditions-hold : map (λ x. evaluate [] (x .directive) (bytes (x .text)) STRICT) conditions ≡ map (λ x. x .condition) conditions
-unfolding evaluate ofExpression ofAnswer evaluationIn ofTokens barsOutside recordsIn reading readToken readByte readFrom tooDeep checkDepth classOf span compared macroName pcdName digitOf valueIn literal isDecimal isHexadecimal hexadecimalOf numberOf stringOf stringAt spelled isWide wordOf macroOf begins leading lexemeBy lexeme isPrimary isUnary levelOf run parse clashOr unaryKind binaryKind choiceKind andDigits orDigits applyUnary applyBinary comparison compareNumbers primaryValue missingPcds unaryValue bothValues binaryValue choiceValue
-conditions-hold = refl
+-- in both editions
+conditions-hold : (old : Bool) → map (λ x. evaluate [] (x .directive) (bytes (x .text)) (byItself old)) conditions ≡ map (λ x. x .condition) conditions
+unfolding evaluate ofExpression ofAnswer evaluationIn ofTokens barsOutside recordsIn reading isEquality readToken readByte readFrom tooDeep checkDepth classOf span compared macroName pcdName digitOf valueIn literal isDecimal isHexadecimal hexadecimalOf numberOf stringOf stringAt spelled isWide wordOf macroOf begins leading lexemeBy lexeme isPrimary isUnary levelOf run parse clashOr unaryKind binaryKind choiceKind andDigits orDigits applyUnary applyBinary comparison compareNumbers primaryValue missingPcds unaryValue bothValues binaryValue choiceValue
+conditions-hold old = refl
 
 -- names that the table does not have, one too long for any table, texts that are no name, and directives that take none
 abbrev texts : List Example
 texts =
     reads Ifdef " A" (Fails 0)
-    ∷ reads Ifdef " \t$(A) # c" (Fails 0)
     ∷ reads Ifdef " A#c" (Fails 0)
     ∷ reads Ifdef " X0123456789ABCDEF0123456789ABCDEF0123456789ABCDEF0123456789ABCDEF" (Fails 0)
     ∷ reads Ifndef " A" (Holds 0)
     ∷ reads Ifdef " a" (Refused (unplaced TEXT-MALFORMED))
-    ∷ reads Ifdef " $(A" (Refused (unplaced TEXT-MALFORMED))
-    ∷ reads Ifdef " $A" (Refused (unplaced TEXT-MALFORMED))
-    ∷ reads Ifdef " $()" (Refused (unplaced TEXT-MALFORMED))
     ∷ reads Ifdef " A B" (Refused (unplaced TEXT-MALFORMED))
     ∷ reads Ifdef " A || B" (Refused (unplaced TEXT-MALFORMED))
     ∷ reads Ifdef " # A" (Refused (unplaced TEXT-MALFORMED))
@@ -87,9 +84,10 @@ texts =
     ∷ reads Endif " 1" (Refused (unplaced TEXT-MALFORMED))
     ∷ []
 
-texts-hold : map (λ x. evaluate [] (x .directive) (bytes (x .text)) STRICT) texts ≡ map (λ x. x .condition) texts
+-- in both editions
+texts-hold : (old : Bool) → map (λ x. evaluate [] (x .directive) (bytes (x .text)) (byItself old)) texts ≡ map (λ x. x .condition) texts
 unfolding evaluate ofMacro ofNamed nameAt idle span macroName recordsIn settingUnderAt settingUnder
-texts-hold = refl
+texts-hold old = refl
 
 -- A = 0: the name and 63 zeros, the kind, a length of 8, and zeros
 abbrev table : List ℕ
@@ -103,10 +101,32 @@ well-formed-table = refl
 abbrev names : List Example
 names =
     reads Ifdef " A" (Holds 0)
-    ∷ reads Ifndef " $(A)" (Fails 0)
+    ∷ reads Ifndef " \tA # c" (Fails 0)
     ∷ reads Ifdef " AA" (Fails 0)
     ∷ []
 
-names-hold : map (λ x. evaluate table (x .directive) (bytes (x .text)) STRICT) names ≡ map (λ x. x .condition) names
+-- in both editions
+names-hold : (old : Bool) → map (λ x. evaluate table (x .directive) (bytes (x .text)) (byItself old)) names ≡ map (λ x. x .condition) names
 unfolding evaluate ofMacro ofNamed nameAt idle span compared macroName recordsIn littleEndian valueAt settingUnderAt settingUnder
-names-hold = refl
+names-hold old = refl
+
+-- `$(NAME)`, and what looks like it (document 02, order 5)
+abbrev uses : List Example
+uses =
+    reads Ifdef " $(A)" (Holds 0)
+    ∷ reads Ifndef " \t$(A) # c" (Fails 0)
+    ∷ reads Ifdef " $(AA)" (Fails 0)
+    ∷ reads Ifdef " $(A" (Refused (unplaced TEXT-MALFORMED))
+    ∷ reads Ifdef " $A" (Refused (unplaced TEXT-MALFORMED))
+    ∷ reads Ifdef " $()" (Refused (unplaced TEXT-MALFORMED))
+    ∷ reads Ifdef " $( A)" (Refused (unplaced TEXT-MALFORMED))
+    ∷ []
+
+-- in the old edition; in the new one all of them are malformed
+uses-hold : map (λ x. evaluate table (x .directive) (bytes (x .text)) OLD) uses ≡ map (λ x. x .condition) uses
+unfolding evaluate ofMacro ofNamed nameAt idle span compared macroName recordsIn littleEndian valueAt settingUnderAt settingUnder
+uses-hold = refl
+
+uses-refused : map (λ x. evaluate table (x .directive) (bytes (x .text)) NEW) uses ≡ map (λ x. Refused (unplaced TEXT-MALFORMED)) uses
+unfolding evaluate ofMacro ofNamed nameAt idle span compared macroName recordsIn littleEndian valueAt settingUnderAt settingUnder
+uses-refused = refl

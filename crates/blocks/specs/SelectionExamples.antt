@@ -3,9 +3,10 @@
 use Prim.Native.Nat.{ℕ}
 use Prim.Native.String.{String}
 use mathlib.Core.Path.{_≡_, refl}
+use mathlib.Core.Bool.{Bool}
 use mathlib.Core.List.{List, [], _∷_, _++_}
 use lib.ListN.{replicate}
-use Rattle.units.specs.Dialects.{STRICT}
+use Rattle.units.specs.Dialects.{byItself}
 use Rattle.units.specs.Refusals.{DIVISOR-ZERO, faultAt}
 use Rattle.text.specs.Bytes.{bytes, classOf}
 use Rattle.text.specs.Runs.{span}
@@ -19,7 +20,7 @@ use Rattle.lexeme.specs.Lexeme.{stringOf, stringAt, spelled, isWide, wordOf, ma
 use Rattle.token.specs.Tokens.{readToken, readByte, readFrom, tooDeep, checkDepth, reading}
 use Rattle.arithmetic.specs.Digits.{andDigits, orDigits}
 use Rattle.arithmetic.specs.Operators.{applyUnary, applyBinary, comparison, compareNumbers}
-use Rattle.codes.specs.Levels.{isUnary, levelOf}
+use Rattle.codes.specs.Levels.{isUnary, levelOf, isEquality}
 use Rattle.grammar.specs.Grammar.{isPrimary}
 use Rattle.grammar.specs.Parse.{run as runGoal, parse}
 use Rattle.grammar.specs.Bars.{barsOutside}
@@ -48,18 +49,19 @@ abbrev pub meant : List ℕ
 meant = bytes "!if $(WEEK) GE 48 OR $(WEEK) LE 5\nWatchdog\n!endif\n"
 
 -- with room for eight marks
-abbrev pub results : List Result
-results =
-    selection file (setting "FOO" 61 2) 8 STRICT
-    ∷ selection file (setting "FOO" 61 3) 8 STRICT
-    ∷ selection never (setting "WEEK" 60 50) 8 STRICT
-    ∷ selection meant (setting "WEEK" 60 50) 8 STRICT
+abbrev pub results : (old : Bool) → List Result
+results old =
+    selection file (setting "FOO" 61 2) 8 (byItself old)
+    ∷ selection file (setting "FOO" 61 3) 8 (byItself old)
+    ∷ selection never (setting "WEEK" 60 50) 8 (byItself old)
+    ∷ selection meant (setting "WEEK" 60 50) 8 (byItself old)
     ∷ []
 
-pub results-hold : results ≡ accepted (4 ∷ 1 ∷ 2 ∷ 0 ∷ 3 ∷ 0 ∷ 5 ∷ 1 ∷ []) 1
+-- in both editions
+pub results-hold : (old : Bool) → results old ≡ accepted (4 ∷ 1 ∷ 2 ∷ 0 ∷ 3 ∷ 0 ∷ 5 ∷ 1 ∷ []) 1
     ∷ refused (faultAt DIVISOR-ZERO 10) 3
     ∷ accepted (3 ∷ 0 ∷ 5 ∷ []) 3
     ∷ accepted (4 ∷ 1 ∷ 5 ∷ []) 2
     ∷ []
-unfolding selection run step plan settled onto endsLine lines named wordStart textStart directiveOf evaluate ofExpression ofMacro ofNamed nameAt idle ofAnswer evaluationIn ofTokens barsOutside recordsIn zeros isName wellFormedName orderedNames ordered plainKind plainRecord plainRecords wellFormed littleEndian valueAt settingUnderAt settingUnder reading readToken readByte readFrom tooDeep checkDepth classOf span compared macroName pcdName digitOf valueIn literal isDecimal isHexadecimal hexadecimalOf numberOf stringOf stringAt spelled isWide wordOf macroOf begins leading lexemeBy lexeme isPrimary isUnary levelOf runGoal parse clashOr unaryKind binaryKind choiceKind andDigits orDigits applyUnary applyBinary comparison compareNumbers primaryValue missingPcds unaryValue bothValues binaryValue choiceValue
-results-hold = refl
+unfolding selection run step plan settled onto endsLine lines named wordStart textStart directiveOf evaluate ofExpression ofMacro ofNamed nameAt idle ofAnswer evaluationIn ofTokens barsOutside recordsIn zeros isName wellFormedName orderedNames ordered plainKind plainRecord plainRecords wellFormed littleEndian valueAt settingUnderAt settingUnder reading isEquality readToken readByte readFrom tooDeep checkDepth classOf span compared macroName pcdName digitOf valueIn literal isDecimal isHexadecimal hexadecimalOf numberOf stringOf stringAt spelled isWide wordOf macroOf begins leading lexemeBy lexeme isPrimary isUnary levelOf runGoal parse clashOr unaryKind binaryKind choiceKind andDigits orDigits applyUnary applyBinary comparison compareNumbers primaryValue missingPcds unaryValue bothValues binaryValue choiceValue
+results-hold old = refl

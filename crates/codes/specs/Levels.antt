@@ -13,6 +13,13 @@ unaries = map (λ x. x .code) (those (λ x. eqb (x .level) 1) spellings)
 unfoldable pub isUnary : ℕ → Bool
 isUnary c = among unaries c
 
+-- level 6: the equality operators
+abbrev pub equalities : List ℕ
+equalities = map (λ x. x .code) (those (λ x. eqb (x .level) 6) spellings)
+
+unfoldable pub isEquality : ℕ → Bool
+isEquality c = among equalities c
+
 -- the level of the first spelling of a list with this code; 99 if there is none
 abbrev pub levelAmong : List Spelling → ℕ → ℕ
 levelAmong [] c = 99

@@ -1,6 +1,6 @@
 // The levels of operators.
 ghost use mathlib.Core.Path.{_≡_};
-ghost use Rattle.codes.specs.Levels.{isUnary, levelOf};
+ghost use Rattle.codes.specs.Levels.{isUnary, isEquality, levelOf};
 
 // Whether a token is a unary operator.
 pub fn is_unary(c: u8) -> bool
@@ -10,6 +10,13 @@ pub fn is_unary(c: u8) -> bool
         return false;
     }
     if c <= crate::MINUS { true } else { false }
+}
+
+// Whether a token is an equality operator.
+pub fn is_equality(c: u8) -> bool
+    ensures { λ r. ⌜ r ≡ isEquality c ⌝ }
+{
+    (c == crate::EQUAL) | (c == crate::NOT_EQUAL)
 }
 
 // The level of each code: 99 if it is no binary operator.

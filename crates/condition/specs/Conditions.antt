@@ -74,9 +74,9 @@ usedOver n s = pick (eqb (getD s 1 0) (byte "(") && eqb (getD s (2 + n) 0) (byte
 abbrev pub usedName : List ℕ → Named
 usedName s = usedOver (macroName (drop 2 s)) s
 
--- one of the two; the dialect decides nothing here yet
+-- one of the two; `$(NAME)` in the old edition only (document 02, order 5). In the new one nothing that starts with `$` has a name at its front
 unfoldable pub nameAt : List ℕ → Dialect → Named
-nameAt s δ = pick (eqb (getD s 0 0) (byte "$")) (usedName s) (plainName s)
+nameAt s δ = pick (eqb (getD s 0 0) (byte "$") && δ .old) (usedName s) (plainName s)
 
 -- a test as a condition; no operator is applied
 abbrev pub tested : Bool → Condition

@@ -52,5 +52,9 @@ pub fn of_expression<'a>(table: &'a [u8], text: &'a [u8], dialect: Dialect) -> C
     if !blanks::is_spaced(text) {
         return Condition::Refused(units::unplaced(units::TEXT_MALFORMED));
     }
-    of_answer(outcome::evaluate_in(text, table, Dialect { bars: true }))
+    let rules = Dialect {
+        bars: true,
+        old: dialect.old,
+    };
+    of_answer(outcome::evaluate_in(text, table, rules))
 }

@@ -48,10 +48,12 @@ fn used_name(text: &[u8]) -> Named
     name_over(Offset(2), n, Offset(n + 3))
 }
 
+// One of the two: `$(NAME)` in the old edition only.
 fn name_at(text: &[u8], dialect: Dialect) -> Named
     ensures { λ r. ⌜ r ≡ nameAt (now (text .entry)) dialect ⌝ }
 {
-    if bytes::byte_at(text, Offset(0)) == b'$' {
+    let dollar = bytes::byte_at(text, Offset(0)) == b'$';
+    if dollar & dialect.old {
         used_name(text)
     } else {
         plain_name(text)

@@ -47,7 +47,7 @@ EndsIn n (Refused r) = r .offset .0 ≤ n
 ends-in : (e : List ℕ) (δ : Dialect) → EndsIn (length e) (reading e δ .ending)
 ends-in e δ =
     every-ending e δ (EndsIn (length e))
-    (record { complete = λ at h. h; bad = λ at h s r w. h; many = λ at h. h; deep = λ at h. h; long = omega arith })
+    (record { complete = λ at h. h; bad = λ at h q s r w. h; many = λ at h. h; deep = λ at h. h; long = omega arith })
 
 -- tokens of a list
 module _ (n : ℕ) where

@@ -27,6 +27,11 @@ written (value v n) d b = fitted (encoding d v) b
 unfoldable pub fieldOf : Memory → (datum : ℕ) → (buffer : List ℕ) → Dialect → Field
 fieldOf m d b δ = written (evaluation m δ) d b
 
+-- the number of the refusal, 0 if the field was written
+abbrev pub writtenNumber : Written → ℕ
+writtenNumber (Length n) = 0
+writtenNumber (Refused r) = r .number
+
 -- the line of an answer, 0 if there is no refusal
 abbrev pub lineOf : Written → ℕ
 lineOf (Length n) = 0

@@ -1,4 +1,4 @@
-// Runs that start with a letter or `_`: PCD names, wide strings and words.
+// Runs that start with a letter or `_`: PCD names, wide strings, words and bare words.
 use crate::quoted;
 use codes::Scanned;
 use codes::found;
@@ -16,7 +16,7 @@ ghost use Rattle.text.specs.Runs.{span};
 ghost use Rattle.text.specs.Order.{equal};
 ghost use Rattle.text.specs.declared.runs.Set.the-variants.{Word};
 ghost use Rattle.codes.specs.Spellings.{ofLength, words, found as foundOf};
-ghost use Rattle.lexeme.specs.Lexeme.{spelled, isWide, wordOf};
+ghost use Rattle.lexeme.specs.Lexeme.{spelled, isWide, orBare, wordOf};
 
 // The token of a spelling if the run has this spelling, else another result.
 fn spelled_so(w: &[u8], text: &[u8], code: u8, value: u64, other: Scanned) -> Scanned
@@ -99,9 +99,25 @@ fn is_wide(n: usize, s: &[u8]) -> bool
     bytes::is_quote(bytes::byte_at(s, Offset(1)))
 }
 
-// The token of the run at the front, which starts with a letter or `_`.
-pub fn word(s: &[u8], dialect: Dialect) -> Scanned
-    ensures { λ r. ⌜ r ≡ wordOf (span Word (now (s .entry))) (now (s .entry)) dialect ⌝ }
+// Where a run of n bytes is refused, a bare word, if it may be one.
+fn or_bare(bare: bool, n: usize, other: Scanned) -> Scanned
+    ensures { λ r. ⌜ r ≡ orBare bare n other ⌝ }
+{
+    match other {
+        Scanned::Found(_) => other,
+        Scanned::Refused(_) => {
+            if bare {
+                found(codes::BARE, n, 0)
+            } else {
+                other
+            }
+        }
+    }
+}
+
+// The token of the run at the front, which starts with a letter or `_`. `after` says whether the token before is an equality operator.
+pub fn word(after: bool, s: &[u8], dialect: Dialect) -> Scanned
+    ensures { λ r. ⌜ r ≡ wordOf (span Word (now (s .entry))) after (now (s .entry)) dialect ⌝ }
 {
     let pcd = names::pcd_name(s);
     if 0 < pcd {
@@ -112,5 +128,6 @@ pub fn word(s: &[u8], dialect: Dialect) -> Scanned
     if is_wide(n, s) {
         return quoted::string(codes::WIDE, Offset(1), s);
     }
-    spelled_word(&s[0..n])
+    let spelled = spelled_word(&s[0..n]);
+    or_bare(after & dialect.old, n, spelled)
 }

@@ -1,10 +1,12 @@
--- What the exported calls answer: a number, which is 0 or the number of a refusal, and numbers in lent arrays.
-use Prim.Native.Nat.{ℕ}
+-- What the exported calls answer: a number, which is 0 or the number of a refusal, and numbers in lent arrays. The dialect of a call is a number.
+use Prim.Native.Nat.{ℕ, _%_}
 use mathlib.Core.Path.{_≡_}
 use mathlib.Core.List.{List, [], _∷_}
 use lib.ListN.{length}
+use lib.Dec.{eqb}
 use Rattle.units.specs.Refusals.{TABLE-MALFORMED}
-use Rattle.units.specs.Dialects.{STRICT}
+use Rattle.units.specs.Dialects.{byItself}
+use Rattle.units.specs.declared.Dialect.{Dialect}
 use Rattle.text.specs.Bytes.{pick}
 use Rattle.text.specs.Parts.{stored}
 use Rattle.settings.specs.Table.{wellFormed}
@@ -16,7 +18,7 @@ use Rattle.lookup.specs.declared.Value.the-variants.{Number, Text, Fault}
 use Rattle.lookup.specs.declared.Setting.{Setting}
 use Rattle.value.specs.Places.{over}
 use Rattle.value.specs.Kinds.{kindNumber, ofText}
-use Rattle.token.specs.Tokens.{Reading, Stored}
+use Rattle.token.specs.Tokens.{Reading, endingNumber, Stored}
 use Rattle.token.specs.declared.scan.Ending.{Ending}
 use Rattle.token.specs.declared.scan.Ending.the-variants.{Complete, Refused}
 use Rattle.evaluation.specs.Evaluation.{Evaluation, refusalNumber, offsetOf as refusalOffset, kindNumberOf, numberOf, countOf, placeOf, evaluation}
@@ -24,7 +26,11 @@ use Rattle.select.specs.Select.{selection, answerOf, refusalNumber as selection
 use Rattle.select.specs.declared.Answer.{Answer}
 use Rattle.datum.specs.declared.Written.{Written}
 use Rattle.datum.specs.declared.Written.the-variants.{Length, Refused as Unwritten}
-use Rattle.field.specs.Fields.{fieldOf}
+use Rattle.field.specs.Fields.{writtenNumber, fieldOf}
+
+-- the dialect of a call, by its number (document 02, order 5): bit 0 is the edition, 1 for the old one; the other bits are ignored
+abbrev pub dialectOf : ℕ → Dialect
+dialectOf n = byItself (eqb (n % 2) 1)
 
 -- a setting as three numbers: its kind, its number or the start of its string, and the string's length (its value is never a fault)
 abbrev pub valueShown : Value → List ℕ
@@ -39,11 +45,6 @@ settingShown s = pick (s .found) (valueShown (s .value)) (255 ∷ 0 ∷ 0 ∷ []
 pub record Shows (t n out : List ℕ) (r : ℕ) (out′ : List ℕ) : Type 0 where
   pub refused : r ≡ pick (wellFormed t) 0 TABLE-MALFORMED
   pub written : out′ ≡ pick (wellFormed t) (stored (settingShown (settingUnder t n)) out) out
-
--- the refusal number of an ending, 0 if nothing was refused
-abbrev pub endingNumber : Ending → ℕ
-endingNumber (Complete end) = 0
-endingNumber (Refused r) = r .number
 
 -- the offset of the refusal, 0 if nothing was refused
 abbrev pub endingOffset : Ending → ℕ
@@ -66,15 +67,10 @@ abbrev pub answerShown : Evaluation → List ℕ
 answerShown a =
     kindNumberOf a ∷ numberOf a ∷ countOf a ∷ homeNumber (placeOf a .home) ∷ placeOf a .start .0 ∷ placeOf a .len ∷ refusalOffset a ∷ []
 
--- the answer to an expression e over a table t: the number of the refusal, 0 with a value, and the array
-pub record Answers (e t out : List ℕ) (r : ℕ) (out′ : List ℕ) : Type 0 where
-  pub refused-with : r ≡ refusalNumber (evaluation (over e t) STRICT)
-  pub written : out′ ≡ stored (answerShown (evaluation (over e t) STRICT)) out
-
--- the number of the refusal, 0 if the field was written
-abbrev pub writtenNumber : Written → ℕ
-writtenNumber (Length n) = 0
-writtenNumber (Unwritten r) = r .number
+-- the answer to an expression e over a table t in the dialect δ: the number of the refusal, 0 with a value, and the array
+pub record Answers (e t : List ℕ) (δ : Dialect) (out : List ℕ) (r : ℕ) (out′ : List ℕ) : Type 0 where
+  pub refused-with : r ≡ refusalNumber (evaluation (over e t) δ)
+  pub written : out′ ≡ stored (answerShown (evaluation (over e t) δ)) out
 
 -- the length of the field, 0 with a refusal
 abbrev pub writtenLength : Written → ℕ
@@ -90,18 +86,18 @@ writtenOffset (Unwritten r) = r .offset .0
 abbrev pub fieldShown : Written → List ℕ
 fieldShown w = writtenLength w ∷ writtenOffset w ∷ []
 
--- the field of an expression e over a table t: the number, the array with the length and the offset, and the buffer
-pub record Fills (e t : List ℕ) (datum : ℕ) (buffer out : List ℕ) (r : ℕ) (buffer′ out′ : List ℕ) : Type 0 where
-  pub refused-with : r ≡ writtenNumber (fieldOf (over e t) datum buffer STRICT .answer)
-  pub shown : out′ ≡ stored (fieldShown (fieldOf (over e t) datum buffer STRICT .answer)) out
-  pub buffer-is : buffer′ ≡ fieldOf (over e t) datum buffer STRICT .buffer
+-- the field of an expression e over a table t in the dialect δ: the number, the array with the length and the offset, and the buffer
+pub record Fills (e t : List ℕ) (datum : ℕ) (δ : Dialect) (buffer out : List ℕ) (r : ℕ) (buffer′ out′ : List ℕ) : Type 0 where
+  pub refused-with : r ≡ writtenNumber (fieldOf (over e t) datum buffer δ .answer)
+  pub shown : out′ ≡ stored (fieldShown (fieldOf (over e t) datum buffer δ .answer)) out
+  pub buffer-is : buffer′ ≡ fieldOf (over e t) datum buffer δ .buffer
 
 -- the answer of a selection as four numbers: the line of a refusal, the number of lines, the sum of counts, the offset of a refusal in its line
 abbrev pub selectionShown : Answer → List ℕ
 selectionShown a = lineOf a ∷ numberOfLines a ∷ selectionCount a ∷ offsetOf a ∷ []
 
--- the selection of a file f over a table t
-pub record Marks (f t marks out : List ℕ) (r : ℕ) (marks′ out′ : List ℕ) : Type 0 where
-  pub refused-with : r ≡ selectionNumber (answerOf (selection f t (length marks) STRICT))
-  pub shown : out′ ≡ stored (selectionShown (answerOf (selection f t (length marks) STRICT))) out
-  pub marks-are : marks′ ≡ marksOf marks (selection f t (length marks) STRICT)
+-- the selection of a file f over a table t in the dialect δ
+pub record Marks (f t : List ℕ) (δ : Dialect) (marks out : List ℕ) (r : ℕ) (marks′ out′ : List ℕ) : Type 0 where
+  pub refused-with : r ≡ selectionNumber (answerOf (selection f t (length marks) δ))
+  pub shown : out′ ≡ stored (selectionShown (answerOf (selection f t (length marks) δ))) out
+  pub marks-are : marks′ ≡ marksOf marks (selection f t (length marks) δ)

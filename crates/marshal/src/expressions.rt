@@ -1,16 +1,16 @@
 // The calls on expressions.
+use crate::dialects;
 use evaluation::Answer;
 use evaluation::AnswerValue;
 use evaluation::outcome;
 use lookup::Home;
 use lookup::Place;
-use units::Dialect;
 ghost use mathlib.Core.Path.{_≡_};
 ghost use mathlib.Core.List.{[], _∷_};
 ghost use Rattle.value.specs.Places.{Memory};
 ghost use Rattle.text.specs.Parts.{stored};
 ghost use Rattle.evaluation.specs.Evaluation.{value as valued, denoteAnswerValue};
-ghost use Rattle.marshal.specs.Calls.{homeNumber, answerShown, Answers};
+ghost use Rattle.marshal.specs.Calls.{dialectOf, homeNumber, answerShown, Answers};
 
 fn number_of(home: Home) -> u64
     ensures { λ r. ⌜ r ≡ homeNumber home ⌝ }
@@ -64,10 +64,10 @@ fn show_value(out: &mut [u64; 7], v: AnswerValue, count: usize)
 
 // The value of an expression over a table: 0 and the value in `out`; or the refusal number, and `out` is all zeros except for the offset of
 // the refusal, its last entry.
-pub fn answer<'a>(expr: &'a [u8], table: &'a [u8], out: &mut [u64; 7]) -> u8
-    ensures { λ r. ⌜ Answers (now (expr .entry)) (now (table .entry)) (now (out .entry)) r (now (out .exit)) ⌝ }
+pub fn answer<'a>(expr: &'a [u8], table: &'a [u8], dialect: u8, out: &mut [u64; 7]) -> u8
+    ensures { λ r. ⌜ Answers (now (expr .entry)) (now (table .entry)) (dialectOf dialect) (now (out .entry)) r (now (out .exit)) ⌝ }
 {
-    match outcome::evaluate(expr, table, Dialect { bars: false }) {
+    match outcome::evaluate(expr, table, dialects::dialect_of(dialect)) {
         Answer::Refused(r) => {
             let at = r.offset;
             show_number(out, 0, 0, at.0 as u64);

@@ -1,10 +1,10 @@
 // The call on data fields.
+use crate::dialects;
 use datum::Written;
-use units::Dialect;
 ghost use mathlib.Core.Path.{_≡_};
 ghost use mathlib.Core.List.{[], _∷_};
 ghost use Rattle.text.specs.Parts.{stored};
-ghost use Rattle.marshal.specs.Calls.{Fills};
+ghost use Rattle.marshal.specs.Calls.{dialectOf, Fills};
 
 // Stores the length of the field and the offset of the refusal.
 fn show(out: &mut [u64; 2], length: u64, offset: u64)
@@ -21,11 +21,12 @@ pub fn fill<'a>(
     expr: &'a [u8],
     table: &'a [u8],
     datum: u8,
+    dialect: u8,
     out: &mut [u64; 2],
 ) -> u8
-    ensures { λ r. ⌜ Fills (now (expr .entry)) (now (table .entry)) datum (now (buffer .entry)) (now (out .entry)) r (now (buffer .exit)) (now (out .exit)) ⌝ }
+    ensures { λ r. ⌜ Fills (now (expr .entry)) (now (table .entry)) datum (dialectOf dialect) (now (buffer .entry)) (now (out .entry)) r (now (buffer .exit)) (now (out .exit)) ⌝ }
 {
-    match field::field(buffer, expr, table, datum, Dialect { bars: false }) {
+    match field::field(buffer, expr, table, datum, dialects::dialect_of(dialect)) {
         Written::Length(n) => {
             show(out, n as u64, 0);
             0

@@ -1,4 +1,5 @@
 // The answers of the layers below as numbers in lent arrays: one function for each exported call.
+mod dialects;
 pub mod expressions;
 pub mod fields;
 mod numbers;

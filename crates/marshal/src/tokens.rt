@@ -1,12 +1,11 @@
 // The call that lists the tokens of an expression.
+use crate::dialects;
 use crate::numbers;
 use token::scan;
 use token::scan::Ending;
-use units::Dialect;
 ghost use mathlib.Core.Path.{_≡_};
-ghost use Rattle.token.specs.Tokens.{reading};
-ghost use Rattle.units.specs.Dialects.{STRICT};
-ghost use Rattle.marshal.specs.Calls.{Lists, endingNumber, endingOffset};
+ghost use Rattle.token.specs.Tokens.{reading, endingNumber};
+ghost use Rattle.marshal.specs.Calls.{dialectOf, Lists, endingOffset};
 
 // The refusal number of an ending, 0 if nothing was refused.
 fn number_of(ending: Ending) -> u8
@@ -35,15 +34,23 @@ fn offset_of(ending: Ending) -> usize
 // starts, lengths and values of the tokens.
 pub fn list(
     expr: &[u8],
+    dialect: u8,
     out: &mut [u64; 3],
     codes: &mut [u8; 200],
     starts: &mut [u16; 200],
     lens: &mut [u16; 200],
     values: &mut [u64; 200],
 )
-    ensures { λ r. ⌜ Lists (reading (now (expr .entry)) STRICT) (now (out .entry)) (now (codes .entry)) (now (starts .entry)) (now (lens .entry)) (now (values .entry)) (now (out .exit)) (now (codes .exit)) (now (starts .exit)) (now (lens .exit)) (now (values .exit)) ⌝ }
+    ensures { λ r. ⌜ Lists (reading (now (expr .entry)) (dialectOf dialect)) (now (out .entry)) (now (codes .entry)) (now (starts .entry)) (now (lens .entry)) (now (values .entry)) (now (out .exit)) (now (codes .exit)) (now (starts .exit)) (now (lens .exit)) (now (values .exit)) ⌝ }
 {
-    let s = scan::tokens(codes, starts, lens, values, expr, Dialect { bars: false });
+    let s = scan::tokens(
+        codes,
+        starts,
+        lens,
+        values,
+        expr,
+        dialects::dialect_of(dialect),
+    );
     let read = s.tokens;
     let ending = s.ending;
     let number = number_of(ending) as u64;

@@ -3,6 +3,7 @@
 use Prim.Native.Nat.{ℕ, _+_, _≤_}
 use native.Mathlib.Omega.{arith}
 use mathlib.Core.Path.{_≡_, ap, sym}
+use mathlib.Core.Bool.{Bool}
 use mathlib.Core.List.{List, [], _∷_, _++_}
 use lib.ListN.{length, length-append}
 use lib.Dec.{ltb}
@@ -24,7 +25,9 @@ tails q = cc
 
 module _ {e : List ℕ} {δ : Dialect} where
   -- every token that is read from byte `at` on starts there or after it
-  after : {n at : ℕ} {ts : List Token} {x : Ending} → Scanned e δ n at ts x → (us vs : List Token) (b : Token) → ts ≡ us ++ (b ∷ vs) → at ≤ b .start
+  after : {n at : ℕ} {q : Bool} {ts : List Token} {x : Ending} → Scanned e δ n at q ts x → (us vs : List Token) (b : Token)
+      → ts ≡ us ++ (b ∷ vs)
+      → at ≤ b .start
   after (at-end h) us vs b q = absurd (none us vs b q)
   after (at-comment i h) us vs b q = absurd (none us vs b q)
   after (at-blank i h d) us vs b q = omega (arith, after d us vs b q)
@@ -33,7 +36,7 @@ module _ {e : List ℕ} {δ : Dialect} where
   after (token s h w d) [] vs b q = omega (arith, ap (λ (t : Token). t .start) (heads q))
   after (token s h w d) (u ∷ us) vs b q = omega (arith, after d us vs b (tails q))
 
-  ascend : {n at : ℕ} {ts : List Token} {x : Ending} → Scanned e δ n at ts x → (us vs ws : List Token) (a b : Token)
+  ascend : {n at : ℕ} {q : Bool} {ts : List Token} {x : Ending} → Scanned e δ n at q ts x → (us vs ws : List Token) (a b : Token)
       → ts ≡ us ++ (a ∷ (vs ++ (b ∷ ws)))
       → a .start + a .len ≤ b .start
   ascend (at-end h) us vs ws a b q = absurd (none us _ a q)

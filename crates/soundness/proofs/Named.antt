@@ -8,7 +8,7 @@ use mathlib.Core.List.{List, [], _∷_, List·Memᴰ, List·Memᴰ·head, List·
 use lib.Dec.{eqb}
 use borrow.Author.Tests.{eqb-true}
 use Rattle.text.proofs.Laws.{pick-both}
-use Rattle.codes.specs.Codes.{STRING, WIDE, MACRO, PCD}
+use Rattle.codes.specs.Codes.{STRING, WIDE, MACRO, PCD, BARE}
 use Rattle.lookup.specs.Setting.{settingUnder, recordUnder, Within}
 use Rattle.lookup.specs.declared.Value.{Value as CodedValue}
 use Rattle.lookup.specs.declared.Value.the-variants.{Number, Text, Fault}
@@ -68,9 +68,10 @@ module _ (e t u : List ℕ) where
   same-value k same =
       pick-both Same (eqb (k .code) STRING) (λ _. refl)
       (λ _. pick-both Same (eqb (k .code) WIDE) (λ _. refl)
+      (λ _. pick-both Same (eqb (k .code) BARE) (λ _. refl)
       (λ _. pick-both Same (eqb (k .code) MACRO || eqb (k .code) PCD)
       (λ h. same-setting t u (nameIn e k) (same (naming k (eqb (k .code) MACRO) (eqb (k .code) PCD) refl refl h)) e)
-      (λ _. refl)))
+      (λ _. refl))))
 
   pub primary-erased : (k : Token) → Agree k → erasePlacesOf (primaryOf (over e t) k) ≡ erasePlacesOf (primaryOf (over e u) k)
   primary-erased k same =

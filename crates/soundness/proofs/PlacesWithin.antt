@@ -4,7 +4,7 @@ use Prim.Native.Nat.{ℕ, _≤_}
 use mathlib.Core.Bool.{_&&_, _||_}
 use lib.Dec.{eqb}
 use Rattle.text.proofs.Laws.{pick-case}
-use Rattle.codes.specs.Codes.{STRING, WIDE, MACRO, PCD}
+use Rattle.codes.specs.Codes.{STRING, WIDE, MACRO, PCD, BARE}
 use Rattle.lookup.specs.Setting.{Within as WithinTable}
 use Rattle.lookup.specs.declared.TextKind.{TextKind}
 use Rattle.lookup.specs.declared.TextKind.the-variants.{String as TextString, Wide as TextWide}
@@ -39,9 +39,10 @@ unfolding primaryValue
 primary-faultless m k =
     pick-case Faultless (eqb (k .code) STRING) (λ _. tt)
     (λ _. pick-case Faultless (eqb (k .code) WIDE) (λ _. tt)
+    (λ _. pick-case Faultless (eqb (k .code) BARE) (λ _. tt)
     (λ _. pick-case Faultless (eqb (k .code) MACRO || eqb (k .code) PCD)
     (λ _. setting-faultless m (settingOf m k .value) (under-within (m .table) (nameIn (m .expression) k)))
-    (λ _. tt)))
+    (λ _. tt))))
 
 module _ (n : ℕ) where
   -- of a kind, and of a value

@@ -21,7 +21,7 @@ pub fn code_at(codes: &[u8; 200], n: TokenNumber, at: TokenNumber) -> u8
 pub fn is_primary(c: u8) -> bool
     ensures { λ r. ⌜ r ≡ isPrimary c ⌝ }
 {
-    if c <= codes::PCD { true } else { false }
+    if c <= codes::BARE { true } else { false }
 }
 
 // An entry of the order is the number of a token, plus this for a unary operator.

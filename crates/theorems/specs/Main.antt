@@ -5,18 +5,20 @@
 use Prim.Native.Nat.{ℕ, _+_, _-_, _≤_, _<_}
 use mathlib.Core.Path.{_≡_}
 use mathlib.Core.Logic.{_↔_, _⊎_}
-use mathlib.Core.Bool.{true, false}
+use mathlib.Core.Bool.{Bool, true, false}
 use mathlib.Core.List.{List, [], _∷_, _++_, List·Memᴰ, Sublistᴰ}
-use lib.ListN.{length, getD, take}
-use Rattle.units.specs.Refusals.{TABLE-MALFORMED, NO-DERIVATION, BAR-OUTSIDE, PCD-MISSING, KINDS-UNSUITED, TEXT-MALFORMED, faultAt, unplaced, placed}
+use lib.ListN.{length, getD, take, drop}
+use Rattle.units.specs.Refusals.{TABLE-MALFORMED, TOKEN-BAD, NO-DERIVATION, BAR-OUTSIDE, PCD-MISSING, KINDS-UNSUITED, TEXT-MALFORMED, faultAt, unplaced, placed}
 use Rattle.units.specs.Leftmost.{there}
-use Rattle.units.specs.Dialects.{STRICT, inDirectives}
+use Rattle.units.specs.Dialects.{byItself, inDirectives, inNew, inOld}
 use Rattle.units.specs.declared.Refusal.{Refusal}
 use Rattle.units.specs.declared.Dialect.{Dialect}
 use Rattle.units.specs.declared.Fault.{Fault}
 use Rattle.units.specs.declared.Offset.{Offset}
 use Rattle.units.specs.declared.Where.the-variants.{Nowhere}
-use Rattle.text.specs.Bytes.{pick}
+use Rattle.text.specs.Bytes.{byte, pick}
+use Rattle.text.specs.Runs.{span}
+use Rattle.text.specs.declared.runs.Set.the-variants.{Word}
 use Rattle.settings.specs.Table.{records, ordered, wellFormed}
 use Rattle.settings.proofs.Ordered.{in-order}
 use Rattle.halving.specs.Halving.{nameOfRecord, halving, Finds}
@@ -26,9 +28,12 @@ use Rattle.halving.proofs.RoundsBounded.{at-most-ten, ten-in-a-table, first-tak
 use Rattle.halving.proofs.Beginning.{first-bytes-decide}
 use Rattle.halving.proofs.FullTable.{full-table}
 use Rattle.lookup.specs.Setting.{recordUnder}
+use Rattle.lookup.specs.declared.TextKind.the-variants.{String}
 use Rattle.lookup.proofs.Halved.{halved-record}
-use Rattle.codes.specs.Codes.{OPEN}
-use Rattle.token.specs.Tokens.{MAX-TOKENS, Token, firstPlace, readFrom, tooDeep, codesOf, reading}
+use Rattle.codes.specs.Codes.{BARE, OPEN}
+use Rattle.codes.specs.Spellings.{found}
+use Rattle.lexeme.specs.Lexeme.{lexeme}
+use Rattle.token.specs.Tokens.{MAX-TOKENS, Token, firstPlace, endingNumber, readFrom, tooDeep, codesOf, reading}
 use Rattle.token.specs.declared.scan.Ending.{Ending}
 use Rattle.scanned.specs.Scanned.{Scanned}
 use Rattle.scanned.specs.Depth.{FirstOver}
@@ -42,7 +47,7 @@ use Rattle.grammar.specs.Bars.{bareBars, barsOutside}
 use Rattle.grammar.specs.Parse.{Reads, parse, accepted as parsed, refused as unparsed}
 use Rattle.grammar.proofs.Decided.{unambiguous, bounded, evaluates}
 use Rattle.grammar.proofs.Bars.{bars-seen}
-use Rattle.value.specs.Places.{Memory, over}
+use Rattle.value.specs.Places.{Memory, over, inExpression}
 use Rattle.beginnings.specs.Beginnings.{Begins, FirstBad, Supply}
 use Rattle.beginnings.proofs.FirstBad.{shorter, first-bad-single, locates}
 use Rattle.blame.specs.Blame.{toBlame}
@@ -50,7 +55,7 @@ use Rattle.blame.specs.Nodes.{root}
 use Rattle.blame.specs.Applied.{faultyNodes}
 use Rattle.blame.proofs.InOrder.{in-order as blame-in-order}
 use Rattle.value.specs.Kinds.{clashes}
-use Rattle.value.specs.Values.{Value, fault as faultValue, kindOf, HasKind, InBounds, isMissingPcd}
+use Rattle.value.specs.Values.{Value, text, fault as faultValue, kindOf, HasKind, InBounds, primaryValue, isMissingPcd}
 use Rattle.expression.specs.Meaning.{codeOf, meaning as attributes}
 use Rattle.leftmost.specs.Leftmost.{pcdAt}
 use Rattle.evaluation.specs.Evaluation.{value, refused as refusedBy, refusedAt, refusedWith, refusalNumber, lineOf, offsetOf, answerValue, refusedOr}
@@ -67,10 +72,10 @@ use Rattle.answers.proofs.LineZero.{without-line}
 use Rattle.answers.proofs.Bars.{same-reading, bars-only, eight-at, eight-without}
 use Rattle.line.specs.Lines.{lines}
 use Rattle.line.specs.declared.Directive.{Directive}
-use Rattle.line.specs.declared.Directive.the-variants.{If, Elseif}
+use Rattle.line.specs.declared.Directive.the-variants.{If, Ifdef, Ifndef, Elseif}
 use Rattle.line.specs.declared.Condition.the-variants.{Refused as RefusedCondition}
-use Rattle.condition.specs.Conditions.{spaced, ofAnswer, evaluate}
-use Rattle.select.specs.Select.{accepted, refused, run, start, selection, Selects}
+use Rattle.condition.specs.Conditions.{spaced, idle, ofAnswer, evaluate}
+use Rattle.select.specs.Select.{accepted, refused, run, start, selection, answerOf, refusalNumber as selectionNumber, Selects}
 use Rattle.select.specs.declared.Answer.{Answer}
 use Rattle.select.specs.declared.Answer.the-variants.{Accepted}
 use Rattle.select.proofs.MarksEachLine.{marks-each-line}
@@ -91,11 +96,20 @@ use Rattle.blocks.proofs.NeverBar.{never-bar as selection-never-bar}
 use Rattle.blocks.proofs.ConditionAnswer.{condition-answer, unspaced}
 use Rattle.isolation.specs.Isolation.{Comparable}
 use Rattle.isolation.proofs.SelectionIsolated.{isolation, two-calls}
-use Rattle.field.specs.Fields.{fieldOf, lineOf as lineOfField}
+use Rattle.field.specs.Fields.{writtenNumber, fieldOf, lineOf as lineOfField}
 use Rattle.field.proofs.LineZero.{without-line as field-without-line}
 use Rattle.field.proofs.Refused.{refused-field}
 use Rattle.field.proofs.Unplaced.{field-unplaced}
-use Rattle.datum.specs.declared.Written.the-variants.{Refused as RefusedField}
+use Rattle.datum.specs.declared.Written.the-variants.{Length, Refused as RefusedField}
+use Rattle.editions.specs.BareWords.{BareWord, FollowEqualities}
+use Rattle.editions.specs.UsedNames.{pastBlanks, SomeBlanks, Name, used, Uses}
+use Rattle.editions.proofs.SameTokens.{new-alone, only-bare-words}
+use Rattle.editions.proofs.BareWords.{bare-exactly, own-bytes}
+use Rattle.editions.proofs.Placed.{follow-equalities, none-in-new}
+use Rattle.editions.proofs.UsedNames.{no-dollar-in-new, same-without-dollar, used-is-plain, uses-or-malformed}
+use Rattle.editions.proofs.SameReading.{same-reading as old-reading}
+use Rattle.editions.proofs.SameAnswers.{same-answer, same-value, same-field, same-written}
+use Rattle.editions.proofs.SameSelections.{same-selection, same-accepted}
 
 -- EXPRESSIONS (demand 2)
 
@@ -184,11 +198,11 @@ first-bad-token-exists = first-bad-of
 -- to byte: a blank is skipped, a token is the one at the front of what is left, and it starts there; so does one that cannot be read, and what
 -- follows token 200. Nothing else is read.
 pub tokens-at-their-places : (e : List ℕ) (δ : Dialect)
-    → Scanned e δ 0 0 (readFrom 0 MAX-TOKENS 0 e δ .tokens) (readFrom 0 MAX-TOKENS 0 e δ .ending)
+    → Scanned e δ 0 0 false (readFrom 0 MAX-TOKENS 0 false e δ .tokens) (readFrom 0 MAX-TOKENS 0 false e δ .ending)
 tokens-at-their-places = reading-scanned
 
-pub nothing-else-is-read : (e : List ℕ) (δ : Dialect) (ts : List Token) (x : Ending) → Scanned e δ 0 0 ts x
-    → readFrom 0 MAX-TOKENS 0 e δ ≡ record { tokens = ts; ending = x }
+pub nothing-else-is-read : (e : List ℕ) (δ : Dialect) (ts : List Token) (x : Ending) → Scanned e δ 0 0 false ts x
+    → readFrom 0 MAX-TOKENS 0 false e δ ≡ record { tokens = ts; ending = x }
 nothing-else-is-read e δ ts x = scanned-reading e δ
 
 -- Of two tokens of an expression the later one in the list is further right.
@@ -365,16 +379,16 @@ pub bars-decide-8-only : (m : Memory) (δ : Dialect)
     → (refusalNumber (evaluationIn m δ) ≡ BAR-OUTSIDE → ⊥) → evaluationIn m (inDirectives δ) ≡ evaluationIn m δ
 bars-decide-8-only = bars-only
 
--- By itself, if reading is complete and the tokens derive a tree, an expression is refused with 8 exactly if a bar is outside parentheses, at
--- the leftmost such bar.
-pub bar-by-itself : (m : Memory) (end : Offset) → reading (m .expression) STRICT .ending ≡ Complete end
-    → (s : Tree Token) (d : Derives codeOf expression (reading (m .expression) STRICT .tokens) s)
-    → (k : Token) (ks : List Token) → bareBars codeOf d ≡ k ∷ ks → evaluationIn m STRICT ≡ refusedAt BAR-OUTSIDE (k .start)
+-- By itself, in either edition, if reading is complete and the tokens derive a tree, an expression is refused with 8 exactly if a bar is outside
+-- parentheses, at the leftmost such bar.
+pub bar-by-itself : (old : Bool) (m : Memory) (end : Offset) → reading (m .expression) (byItself old) .ending ≡ Complete end
+    → (s : Tree Token) (d : Derives codeOf expression (reading (m .expression) (byItself old) .tokens) s)
+    → (k : Token) (ks : List Token) → bareBars codeOf d ≡ k ∷ ks → evaluationIn m (byItself old) ≡ refusedAt BAR-OUTSIDE (k .start)
 bar-by-itself = eight-at
 
-pub no-bar-by-itself : (m : Memory) (end : Offset) → reading (m .expression) STRICT .ending ≡ Complete end
-    → (s : Tree Token) (d : Derives codeOf expression (reading (m .expression) STRICT .tokens) s)
-    → bareBars codeOf d ≡ [] → refusalNumber (evaluationIn m STRICT) ≡ BAR-OUTSIDE → ⊥
+pub no-bar-by-itself : (old : Bool) (m : Memory) (end : Offset) → reading (m .expression) (byItself old) .ending ≡ Complete end
+    → (s : Tree Token) (d : Derives codeOf expression (reading (m .expression) (byItself old) .tokens) s)
+    → bareBars codeOf d ≡ [] → refusalNumber (evaluationIn m (byItself old)) ≡ BAR-OUTSIDE → ⊥
 no-bar-by-itself = eight-without
 
 -- A data field has the refusals of its expression, in any dialect, and the buffer then stays as it was.
@@ -382,11 +396,94 @@ pub field-refuses-expression : (m : Memory) (datum : ℕ) (buffer : List ℕ) (�
     → fieldOf m datum buffer δ ≡ record { answer = RefusedField r; buffer = buffer }
 field-refuses-expression = refused-field
 
+-- EDITIONS (document 02, order 5). `inNew δ` and `inOld δ` are the rules of δ in the new and in the old edition.
+
+-- At the front of a text, in the old edition, a token is a bare word exactly where the order says so: the whole run, no digit first, as the next
+-- token after an equality operator, which the new edition refuses with 3, and where no wide string begins. Every other token, and every other
+-- refusal of a token, is that of the new edition. In the new edition no token depends on the one before it.
+pub bare-word-exactly : (after : Bool) (s : List ℕ) (n : ℕ) (δ : Dialect) → (lexeme after s (inOld δ) ≡ found BARE n 0) ↔ BareWord after s n δ
+bare-word-exactly = bare-exactly
+
+pub only-bare-words-differ : (after : Bool) (s : List ℕ) (δ : Dialect)
+    → (lexeme after s (inOld δ) ≡ lexeme after s (inNew δ)) ⊎ BareWord after s (span Word s) δ
+only-bare-words-differ = only-bare-words
+
+pub new-tokens-by-themselves : (after : Bool) (s : List ℕ) (δ : Dialect) → lexeme after s (inNew δ) ≡ lexeme false s (inNew δ)
+new-tokens-by-themselves = new-alone
+
+-- Among the tokens of an expression each bare word is the next one after an equality operator, and in the new edition there is none. The value of
+-- a bare word is a string of its own bytes.
+pub bare-words-follow-equalities : (δ : Dialect) (e : List ℕ) → FollowEqualities false (reading e δ .tokens)
+bare-words-follow-equalities = follow-equalities
+
+pub no-bare-word-in-new : (δ : Dialect) (e : List ℕ) (k : Token) → List·Memᴰ k (reading e (inNew δ) .tokens) → k .code ≡ BARE → ⊥
+no-bare-word-in-new = none-in-new
+
+pub bare-word-is-its-bytes : (m : Memory) (k : Token) → k .code ≡ BARE
+    → primaryValue m k ≡ text String (inExpression (k .start) (k .len)) (take (k .len) (drop (k .start) (m .expression)))
+bare-word-is-its-bytes = own-bytes
+
+-- After the blanks that follow `!ifdef` and `!ifndef` the editions differ only in what starts with `$`: the new one refuses it with 22. To the old
+-- one `$(NAME)`, with nothing but blanks and a comment after it, is what NAME is to the new one, and it refuses anything else that starts so with 22.
+pub same-without-dollar-after-ifdef : (t : List ℕ) (δ : Dialect) (d : Directive) → (d ≡ Ifdef) ⊎ (d ≡ Ifndef) → (s : List ℕ)
+    → (getD (pastBlanks s) 0 0 ≡ byte "$" → ⊥) → evaluate t d s (inOld δ) ≡ evaluate t d s (inNew δ)
+same-without-dollar-after-ifdef = same-without-dollar
+
+pub no-dollar-after-ifdef-in-new : (t : List ℕ) (δ : Dialect) (d : Directive) → (d ≡ Ifdef) ⊎ (d ≡ Ifndef) → (s : List ℕ)
+    → getD (pastBlanks s) 0 0 ≡ byte "$" → evaluate t d s (inNew δ) ≡ RefusedCondition (unplaced TEXT-MALFORMED)
+no-dollar-after-ifdef-in-new = no-dollar-in-new
+
+pub used-name-is-its-name : (t : List ℕ) (δ : Dialect) (b w r : List ℕ) → SomeBlanks b → Name w → idle r ≡ true
+    → (d : Directive) → (d ≡ Ifdef) ⊎ (d ≡ Ifndef) → evaluate t d (b ++ used w r) (inOld δ) ≡ evaluate t d (b ++ (w ++ r)) (inNew δ)
+used-name-is-its-name = used-is-plain
+
+pub only-used-names-in-old : (t : List ℕ) (δ : Dialect) (d : Directive) → (d ≡ Ifdef) ⊎ (d ≡ Ifndef) → (s : List ℕ)
+    → getD (pastBlanks s) 0 0 ≡ byte "$"
+    → (evaluate t d s (inOld δ) ≡ RefusedCondition (unplaced TEXT-MALFORMED)) ⊎ ((w : List ℕ) × (r : List ℕ) × Uses (pastBlanks s) w r)
+only-used-names-in-old = uses-or-malformed
+
+-- Where the new edition's reading of an expression does not end in 3, the old one's is the same: tokens, ending and place.
+pub old-reads-alike : (e : List ℕ) (δ : Dialect) → (endingNumber (reading e (inNew δ) .ending) ≡ TOKEN-BAD → ⊥)
+    → reading e (inOld δ) ≡ reading e (inNew δ)
+old-reads-alike = old-reading
+
+-- An expression that the new edition does not refuse with 3 has the same answer in the old one, whether it is a value or a refusal; so has a data
+-- field, with every byte of its buffer.
+pub old-answers-alike : (m : Memory) (δ : Dialect) → (refusalNumber (evaluation m (inNew δ)) ≡ TOKEN-BAD → ⊥)
+    → evaluation m (inOld δ) ≡ evaluation m (inNew δ)
+old-answers-alike = same-answer
+
+pub old-fills-alike : (m : Memory) (δ : Dialect) (datum : ℕ) (buffer : List ℕ)
+    → (writtenNumber (fieldOf m datum buffer (inNew δ) .answer) ≡ TOKEN-BAD → ⊥)
+    → fieldOf m datum buffer (inOld δ) ≡ fieldOf m datum buffer (inNew δ)
+old-fills-alike = same-field
+
+-- A selection that the new edition refuses neither with 3 nor with 22 is the same in the old one: marks and count, or number, line and place.
+pub old-selects-alike : (t : List ℕ) (δ : Dialect) (f : List ℕ) (room : ℕ)
+    → (selectionNumber (answerOf (selection f t room (inNew δ))) ≡ TOKEN-BAD → ⊥)
+    × (selectionNumber (answerOf (selection f t room (inNew δ))) ≡ TEXT-MALFORMED → ⊥)
+    → selection f t room (inOld δ) ≡ selection f t room (inNew δ)
+old-selects-alike = same-selection
+
+-- So whatever the new edition accepts, the old one accepts with the same answer: an expression with its value, kind, place and count; a data
+-- field with its length and bytes; a selection with its marks and count.
+pub old-accepts-expressions : (m : Memory) (δ : Dialect) (v : Value) (n : ℕ) → evaluation m (inNew δ) ≡ value v n → evaluation m (inOld δ) ≡ value v n
+old-accepts-expressions = same-value
+
+pub old-accepts-fields : (m : Memory) (δ : Dialect) (datum : ℕ) (buffer : List ℕ) (n : ℕ) (left : List ℕ)
+    → fieldOf m datum buffer (inNew δ) ≡ record { answer = Length n; buffer = left }
+    → fieldOf m datum buffer (inOld δ) ≡ record { answer = Length n; buffer = left }
+old-accepts-fields = same-written
+
+pub old-accepts-selections : (t : List ℕ) (δ : Dialect) (f : List ℕ) (room : ℕ) (ms : List ℕ) (c : ℕ)
+    → selection f t room (inNew δ) ≡ accepted ms c → selection f t room (inOld δ) ≡ accepted ms c
+old-accepts-selections = same-accepted
+
 -- ISOLATION (demand 3)
 
 -- A second selection has the same marks and count as an accepted one if its file has as many lines, with the same words, the directives
 -- that the first one read have the same bytes, the tables have the same records under the names in these, the second table is well formed,
--- and the second file, its lines and its marks keep the limits of 14, 17 and 16. Both are read in one dialect.
+-- and the second file, its lines and its marks keep the limits of 14, 17 and 16. Both are read in one dialect, so in one edition.
 pub isolated : (δ : Dialect) (f₁ t₁ : List ℕ) (room₁ : ℕ) (ms : List ℕ) (c : ℕ) → selection f₁ t₁ room₁ δ ≡ accepted ms c
     → (f₂ t₂ : List ℕ) (room₂ : ℕ) → Comparable f₁ t₁ ms f₂ t₂ room₂ δ → selection f₂ t₂ room₂ δ ≡ accepted ms c
 isolated = isolation

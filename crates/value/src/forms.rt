@@ -112,6 +112,7 @@ pub fn of_primary(expr: &[u8], table: &[u8], k: Token) -> Attributes
     match code {
         codes::STRING => plain(Value::Text(TextKind::String, inner(k, 1, 2))),
         codes::WIDE => plain(Value::Text(TextKind::Wide, inner(k, 2, 3))),
+        codes::BARE => plain(Value::Text(TextKind::String, inner(k, 0, 0))),
         codes::MACRO => of_name(expr, table, k),
         codes::PCD => of_name(expr, table, k),
         _ => plain(Value::Number(k.value)),

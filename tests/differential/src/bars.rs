@@ -1,25 +1,19 @@
 //! Bars outside parentheses in conditions (document 02, order 1): a selection
 //! never refuses them, which shows only if there are some.
 
-use oracle::lines::{lines, sort, Line, Word};
-use oracle::selection::mark;
+use oracle::lines::Word;
 use oracle::tokens::bar_outside;
+use oracle::Edition;
 
+use crate::read;
 use crate::report::Tally;
 
 /// Whether a condition that is read has one, by the marks of an accepted file.
-/// The marks of a refused one have no such condition.
-pub fn in_read_condition(file: &[u8], marks: &[u8]) -> bool {
-    lines(file)
-        .zip(marks)
-        .filter(|(_, mark)| matches!(**mark, mark::TAKEN | mark::NOT_TAKEN))
-        .any(|(line, _)| match sort(line) {
-            Ok(Line::Directive {
-                word: Word::If | Word::Elseif,
-                argument,
-            }) => bar_outside(&oracle::scan(argument).tokens).is_some(),
-            _ => false,
-        })
+pub fn in_read_condition(file: &[u8], marks: &[u8], edition: Edition) -> bool {
+    read::branches(file, marks).any(|(word, argument)| match word {
+        Word::If | Word::Elseif => bar_outside(&oracle::scan(argument, edition).tokens).is_some(),
+        _ => false,
+    })
 }
 
 /// What a subject lacks if no random file that was accepted had one.

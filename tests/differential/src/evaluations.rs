@@ -3,12 +3,13 @@
 
 use std::ops::Range;
 
-use oracle::Value;
+use oracle::{Edition, Value, EDITIONS};
 
 use crate::crash;
+use crate::editions;
 use crate::gen::formulas::Place;
 use crate::gen::settings::{self, Names};
-use crate::gen::{expressions, nested, rivals, tables, values};
+use crate::gen::{bare_words, expressions, nested, rivals, tables, values};
 use crate::lent::{Input, Shown};
 use crate::library;
 use crate::prng::Prng;
@@ -27,11 +28,15 @@ impl Subject for Evaluations {
     }
 
     fn units(&self) -> (&'static str, &'static str) {
-        ("expressions", "places of strings")
+        ("answers", "places of strings")
     }
 
     fn needed(&self) -> &'static [u8] {
         &[1, 2, 3, 4, 5, 6, 7, 8, 9, 10, 11, 12]
+    }
+
+    fn lacks(&self, random: &Tally) -> Option<String> {
+        editions::lack_in_expressions(random, 3..=12)
     }
 
     fn fixed(&self, tally: &mut Tally) -> Result<(), Mismatch> {
@@ -76,12 +81,18 @@ impl Subject for Evaluations {
         for (index, expr) in rivals::pairs().iter().enumerate() {
             compare(expr, &one_pcd, index as u64, tally)?;
         }
+        for (index, expr) in bare_words::all().iter().enumerate() {
+            compare(expr, &strings.concat(), index as u64, tally)?;
+        }
+        for pattern in editions::all_patterns() {
+            compare(b"'ab' == ab", b"", pattern, tally)?;
+        }
         Ok(())
     }
 
     fn case(&self, rng: &mut Prng, tally: &mut Tally) -> Result<(), Mismatch> {
         let table = settings::table(rng);
-        let names = Names::of(&table);
+        let names = Names::of(&table, rng.pick(&EDITIONS));
         for _ in 0..TO_A_TABLE {
             let expr = values::any(rng, &names, Place::Alone);
             compare(&expr, &table, rng.next(), tally)?;
@@ -110,8 +121,8 @@ fn compare(expr: &[u8], table: &[u8], pattern: u64, tally: &mut Tally) -> Result
     })
 }
 
-/// Compares the value of `expr` under `table`, which the library finds at
-/// `expr_at` and `table_at`.
+/// Compares the values of `expr` under `table`, which the library finds at
+/// `expr_at` and `table_at`, in both editions.
 fn compare_at(
     expr: &[u8],
     expr_at: Input,
@@ -120,14 +131,39 @@ fn compare_at(
     pattern: u64,
     tally: &mut Tally,
 ) -> Result<(), Mismatch> {
-    let expected = answer(expr, table);
+    let [new, old] = editions::both(pattern, |edition| {
+        compare_in(edition, expr, expr_at, table, table_at, pattern, tally)
+    })?;
+    editions::count_expression(expr, new.0, old.0, tally);
+    if editions::agree(&new, &old, new.0, editions::OF_AN_EXPRESSION) {
+        return Ok(());
+    }
+    let (new, old) = (format!("{new:?}"), format!("{old:?}"));
+    let input = write(expr, table);
+    Err(editions::mismatch("another answer", input, new, old))
+}
+
+/// Compares the value in one edition, and gives the library's.
+fn compare_in(
+    edition: Edition,
+    expr: &[u8],
+    expr_at: Input,
+    table: &[u8],
+    table_at: Input,
+    pattern: u64,
+    tally: &mut Tally,
+) -> Result<(u8, [u64; 7]), Mismatch> {
+    let expected = answer(expr, table, edition);
     tally.add(expected.0, expected.1[6]);
     if expected.1[0] != 0 {
         tally.extra += 1;
     }
-    let given = crash::watched(expr, || library::evaluate(expr_at, table_at, pattern));
+    let dialect = editions::dialect(edition, pattern);
+    let given = crash::watched(expr, || {
+        library::evaluate(expr_at, table_at, dialect, pattern)
+    });
     if given.as_ref() == Ok(&expected) {
-        return Ok(());
+        return Ok(expected);
     }
     let (what, library) = match given {
         Ok(given) => (
@@ -145,8 +181,8 @@ fn compare_at(
 }
 
 /// The oracle's answer in the library's form.
-fn answer(expr: &[u8], table: &[u8]) -> (u8, [u64; 7]) {
-    let outcome = match oracle::evaluate(expr, table) {
+fn answer(expr: &[u8], table: &[u8], edition: Edition) -> (u8, [u64; 7]) {
+    let outcome = match oracle::evaluate(expr, table, edition) {
         Ok(outcome) => outcome,
         Err(refusal) => {
             let offset = refusal.offset() as u64;

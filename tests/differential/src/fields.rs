@@ -1,7 +1,10 @@
 //! Bytes of data fields: refusals 1 to 12 and 23 to 26 with their offsets, and
 //! every byte.
 
+use oracle::{Edition, EDITIONS};
+
 use crate::crash;
+use crate::editions;
 use crate::evaluations::{write, TO_A_TABLE};
 use crate::gen::settings::{self, Names};
 use crate::gen::{fields as gen, nested, tables};
@@ -16,10 +19,10 @@ const AMPLE: usize = 2 * oracle::tokens::MAX_BYTES;
 
 /// Values on both sides of each limit, and some refusals.
 #[rustfmt::skip]
-const EXPRESSIONS: [&str; 23] = [
+const EXPRESSIONS: [&str; 28] = [
     "0", "1", "2", "255", "256", "65535", "65536", "4294967295", "4294967296", "1 << 63",
     "18446744073709551615", "''", "'ab'", "L''", "L'ab'", "$(E)", "$(S)", "$(W)", "1 / 0", "1 | 2",
-    "", "@", "g.P",
+    "", "@", "g.P", "'a' == a", "$(S) NE a", "1 EQ a", "1 ? $(S) : $(S) == a", "a",
 ];
 
 pub struct Fields;
@@ -30,11 +33,15 @@ impl Subject for Fields {
     }
 
     fn units(&self) -> (&'static str, &'static str) {
-        ("fields", "")
+        ("answers", "")
     }
 
     fn needed(&self) -> &'static [u8] {
         &[1, 2, 3, 4, 5, 6, 7, 8, 9, 10, 11, 12, 23, 24, 25, 26]
+    }
+
+    fn lacks(&self, random: &Tally) -> Option<String> {
+        editions::lack_in_expressions(random, 3..=12)
     }
 
     fn fixed(&self, tally: &mut Tally) -> Result<(), Mismatch> {
@@ -91,17 +98,28 @@ impl Subject for Fields {
                 }
             }
         }
+        let case = Case {
+            expr: b"'a' != foo",
+            table: b"",
+            datum: 1,
+            room: 2,
+        };
+        for pattern in editions::all_patterns() {
+            case.compare(pattern, tally)?;
+        }
         Ok(())
     }
 
     fn case(&self, rng: &mut Prng, tally: &mut Tally) -> Result<(), Mismatch> {
         let table = settings::table(rng);
-        let names = Names::of(&table);
+        let edition = rng.pick(&EDITIONS);
+        let names = Names::of(&table, edition);
         for _ in 0..TO_A_TABLE {
             let expr = gen::expression(rng, &names);
-            let outcome = oracle::evaluate(&expr, &table).ok();
+            let outcome = oracle::evaluate(&expr, &table, edition).ok();
             let datum = gen::datum(rng, outcome.map(|outcome| outcome.value.kind()));
-            let needed = oracle::field(&expr, &table, datum, &mut [0; AMPLE]).unwrap_or(0);
+            let field = oracle::field(&expr, &table, datum, edition, &mut [0; AMPLE]);
+            let needed = field.unwrap_or(0);
             let case = Case {
                 expr: &expr,
                 table: &table,
@@ -132,8 +150,8 @@ impl Case<'_> {
         checked.map_err(|what| self.broken_memory(what))
     }
 
-    /// Compares the field of an expression and a table that the library finds
-    /// at these places.
+    /// Compares the fields of an expression and a table that the library finds
+    /// at these places, in both editions.
     fn compare_at(
         &self,
         expr_at: Input,
@@ -141,8 +159,28 @@ impl Case<'_> {
         pattern: u64,
         tally: &mut Tally,
     ) -> Result<(), Mismatch> {
+        let [new, old] = editions::both(pattern, |edition| {
+            self.compare_in(edition, expr_at, table_at, pattern, tally)
+        })?;
+        editions::count_expression(self.expr, new.refusal, old.refusal, tally);
+        if editions::agree(&new, &old, new.refusal, editions::OF_AN_EXPRESSION) {
+            return Ok(());
+        }
+        let (new, old) = (write_field(&new), write_field(&old));
+        Err(editions::mismatch("another field", self.write(), new, old))
+    }
+
+    /// Compares the field in one edition, and gives the library's.
+    fn compare_in(
+        &self,
+        edition: Edition,
+        expr_at: Input,
+        table_at: Input,
+        pattern: u64,
+        tally: &mut Tally,
+    ) -> Result<Field, Mismatch> {
         let mut buffer = vec![pattern as u8; self.room];
-        let outcome = oracle::field(self.expr, self.table, self.datum, &mut buffer);
+        let outcome = oracle::field(self.expr, self.table, self.datum, edition, &mut buffer);
         let expected = Field {
             refusal: outcome.err().map_or(0, |refusal| refusal.number),
             length: outcome.map_or(0, |length| length as u64),
@@ -150,12 +188,13 @@ impl Case<'_> {
             buffer,
         };
         tally.add(expected.refusal, expected.offset);
+        let dialect = editions::dialect(edition, pattern);
         let given = crash::watched(self.expr, || {
-            library::field(expr_at, table_at, self.datum, self.room, pattern)
+            library::field(expr_at, table_at, self.datum, dialect, self.room, pattern)
         });
         let given = given.map_err(|what| self.broken_memory(what))?;
         if given == expected {
-            return Ok(());
+            return Ok(given);
         }
         let what = if given.refusal != expected.refusal {
             "refusal"

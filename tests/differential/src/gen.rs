@@ -1,5 +1,6 @@
 //! Makes the inputs: expressions, tables, names and description files.
 
+pub mod bare_words;
 mod bounds;
 mod broken;
 pub mod directives;

@@ -1,8 +1,12 @@
 //! Demand 3: what an accepted run does not read makes no difference. Pairs of
 //! files and tables that agree in what is read must get the same answer from
-//! the library. Changes of what is read must show.
+//! the library, in either edition; both runs of a pair are in the same one.
+//! Changes of what is read must show.
+
+use oracle::{Edition, EDITIONS};
 
 use crate::bars;
+use crate::editions;
 use crate::gen::settings::{self, Names};
 use crate::gen::{disturbed, files, short_files, tables, twins};
 use crate::library::Selected;
@@ -42,13 +46,16 @@ impl Subject for Isolation {
         (showed < pairs / 2)
             .then(|| format!("of {pairs} accepted files, changes showed {showed} times only"))
             .or_else(|| bars::lack(random))
+            .or_else(|| editions::lack_in_files(random))
     }
 
     fn fixed(&self, tally: &mut Tally) -> Result<(), Mismatch> {
         let record = tables::record(b"A", 0, &[0; 8]);
         for (index, file) in short_files::all().iter().enumerate() {
             let mut rng = Prng::for_case(1, "short files", index as u64);
-            pair(&mut rng, file, &record, tally)?;
+            for edition in EDITIONS {
+                pair(&mut rng, file, &record, edition, tally)?;
+            }
         }
         Ok(())
     }
@@ -56,9 +63,9 @@ impl Subject for Isolation {
     fn case(&self, rng: &mut Prng, tally: &mut Tally) -> Result<(), Mismatch> {
         for _ in 0..TRIES {
             let table = settings::table(rng);
-            let names = Names::of(&table);
-            let file = files::good(rng, &names);
-            if pair(rng, &file, &table, tally)? {
+            let edition = rng.pick(&EDITIONS);
+            let file = files::good(rng, &Names::of(&table, edition));
+            if pair(rng, &file, &table, edition, tally)? {
                 return Ok(());
             }
         }
@@ -72,28 +79,37 @@ impl Subject for Isolation {
 }
 
 /// Compares the first file, if it is accepted, with a second one.
-fn pair(rng: &mut Prng, file: &[u8], table: &[u8], tally: &mut Tally) -> Result<bool, Mismatch> {
+fn pair(
+    rng: &mut Prng,
+    file: &[u8],
+    table: &[u8],
+    edition: Edition,
+    tally: &mut Tally,
+) -> Result<bool, Mismatch> {
     let first = Case {
         file,
         table,
         room: ROOM,
     };
-    let answer = call(&first, rng.next())?;
+    let answer = call(&first, edition, rng.next())?;
     tally.add(answer.refusal, answer.offset);
     if answer.refusal != 0 {
         return Ok(false);
     }
     // Which directives are read is decided by the oracle, not by the library under test.
-    let Some(marks) = twins::marks(file, table) else {
+    let Some(marks) = twins::marks(file, table, edition) else {
         return Err(Mismatch {
-            what: "a file that is to be refused".to_string(),
+            what: format!("a file that is to be refused ({edition:?})"),
             input: first.write(),
             oracle: "refuses it".to_string(),
             library: write_selected(&answer),
         });
     };
-    tally.with_bars += u64::from(bars::in_read_condition(file, &marks));
-    let named = twins::named(file, &marks);
+    tally.with_bars += u64::from(bars::in_read_condition(file, &marks, edition));
+    if edition == Edition::Old {
+        editions::count_file(file, &marks, tally);
+    }
+    let named = twins::named(file, &marks, edition);
     let second_file = twins::file(rng, file, &marks);
     let second_table = twins::table(rng, table, &named);
     let second = Case {
@@ -101,10 +117,12 @@ fn pair(rng: &mut Prng, file: &[u8], table: &[u8], tally: &mut Tally) -> Result<
         table: &second_table,
         room: rng.between(marks.len(), ROOM),
     };
-    let other = call(&second, rng.next())?;
+    let other = call(&second, edition, rng.next())?;
     if other != answer {
         return Err(Mismatch {
-            what: "another answer to a file and a table that agree in what is read".to_string(),
+            what: format!(
+                "another answer to a file and a table that agree in what is read ({edition:?})"
+            ),
             input: format!(
                 "{}\n    and the second:\n    {}",
                 first.write(),
@@ -114,7 +132,7 @@ fn pair(rng: &mut Prng, file: &[u8], table: &[u8], tally: &mut Tally) -> Result<
             library: format!("the second answer: {}", write_selected(&other)),
         });
     }
-    disturb(rng, &first, &marks, &answer, tally)?;
+    disturb(rng, &first, edition, &marks, &answer, tally)?;
     Ok(true)
 }
 
@@ -122,19 +140,20 @@ fn pair(rng: &mut Prng, file: &[u8], table: &[u8], tally: &mut Tally) -> Result<
 fn disturb(
     rng: &mut Prng,
     first: &Case,
+    edition: Edition,
     marks: &[u8],
     answer: &Selected,
     tally: &mut Tally,
 ) -> Result<(), Mismatch> {
-    if let Some(file) = disturbed::file(rng, first.file, marks) {
+    if let Some(file) = disturbed::file(rng, first.file, marks, edition) {
         let case = Case {
             file: &file,
             ..*first
         };
-        let other = call(&case, rng.next())?;
+        let other = call(&case, edition, rng.next())?;
         if other == *answer {
             return Err(Mismatch {
-                what: "the same answer where a read directive is another".to_string(),
+                what: format!("the same answer where a read directive is another ({edition:?})"),
                 input: format!(
                     "{}\n    and the second:\n    {}",
                     first.write(),
@@ -146,22 +165,22 @@ fn disturb(
         }
         tally.extra += 1;
     }
-    let named = twins::named(first.file, marks);
+    let named = twins::named(first.file, marks, edition);
     if let Some(table) = disturbed::table(rng, first.table, &named) {
         let case = Case {
             table: &table,
             ..*first
         };
-        let other = call(&case, rng.next())?;
+        let other = call(&case, edition, rng.next())?;
         tally.extra += u64::from(other != *answer);
     }
     Ok(())
 }
 
 /// The library's answer, with the marks of the lines alone.
-fn call(case: &Case, pattern: u64) -> Result<Selected, Mismatch> {
+fn call(case: &Case, edition: Edition, pattern: u64) -> Result<Selected, Mismatch> {
     let mut answer = case
-        .call(pattern)
+        .call(edition, pattern)
         .map_err(|what| case.broken_memory(what))?;
     answer.marks.truncate(answer.lines as usize);
     Ok(answer)

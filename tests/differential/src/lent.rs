@@ -90,6 +90,7 @@ impl Shown {
 }
 
 /// A buffer that the library may write to, filled with `pattern` before.
+#[derive(PartialEq)]
 pub struct Buffer<T> {
     cells: Vec<T>,
     pattern: T,

@@ -32,6 +32,7 @@ pub fn lookup(table: Input, name: Input, pattern: u64) -> Result<(u8, [u64; 3]),
 }
 
 /// Everything that a scan leaves in the caller's memory.
+#[derive(PartialEq)]
 pub struct Tokens {
     pub refusal: u64,
     pub count: u64,
@@ -42,7 +43,19 @@ pub struct Tokens {
     pub values: Buffer<u64>,
 }
 
-pub fn tokens(expr: Input, pattern: u64) -> Result<Tokens, String> {
+impl Tokens {
+    /// Code, start, length and value in one entry.
+    pub fn token(&self, place: usize) -> (u8, u16, u16, u64) {
+        (
+            self.codes.cells()[place],
+            self.starts.cells()[place],
+            self.lens.cells()[place],
+            self.values.cells()[place],
+        )
+    }
+}
+
+pub fn tokens(expr: Input, dialect: u8, pattern: u64) -> Result<Tokens, String> {
     let mut out = Buffer::new(3, pattern);
     let mut codes = Buffer::new(MAX_TOKENS, pattern as u8);
     let mut starts = Buffer::new(MAX_TOKENS, pattern as u16);
@@ -53,6 +66,7 @@ pub fn tokens(expr: Input, pattern: u64) -> Result<Tokens, String> {
         korzhinay_tokens(
             expr.start(),
             expr.len(),
+            dialect,
             out.start(),
             codes.start(),
             starts.start(),
@@ -77,7 +91,12 @@ pub fn tokens(expr: Input, pattern: u64) -> Result<Tokens, String> {
 }
 
 /// 0 or the refusal number, and the seven numbers of an answer.
-pub fn evaluate(expr: Input, table: Input, pattern: u64) -> Result<(u8, [u64; 7]), String> {
+pub fn evaluate(
+    expr: Input,
+    table: Input,
+    dialect: u8,
+    pattern: u64,
+) -> Result<(u8, [u64; 7]), String> {
     let mut out = Buffer::new(7, pattern);
     // SAFETY: inputs are valid for reads of their lengths; `out` has 7 numbers of its own.
     let refusal = unsafe {
@@ -86,6 +105,7 @@ pub fn evaluate(expr: Input, table: Input, pattern: u64) -> Result<(u8, [u64; 7]
             expr.len(),
             table.start(),
             table.len(),
+            dialect,
             out.start(),
         )
     };
@@ -109,6 +129,7 @@ pub fn field(
     expr: Input,
     table: Input,
     datum: u8,
+    dialect: u8,
     room: usize,
     pattern: u64,
 ) -> Result<Field, String> {
@@ -124,6 +145,7 @@ pub fn field(
             table.start(),
             table.len(),
             datum,
+            dialect,
             out.start(),
         )
     };
@@ -149,10 +171,16 @@ pub struct Selected {
 }
 
 /// Marks of `room` bytes are lent, filled with the pattern's last byte.
-pub fn select(file: Input, table: Input, room: usize, pattern: u64) -> Result<Selected, String> {
+pub fn select(
+    file: Input,
+    table: Input,
+    dialect: u8,
+    room: usize,
+    pattern: u64,
+) -> Result<Selected, String> {
     let mut marks = Buffer::new(room, pattern as u8);
     // SAFETY: the marks have `room` bytes of their own.
-    let selected = unsafe { select_into(marks.start(), room, file, table, pattern)? };
+    let selected = unsafe { select_into(marks.start(), room, file, table, dialect, pattern)? };
     marks.check("marks")?;
     Ok(Selected {
         marks: marks.cells().to_vec(),
@@ -165,10 +193,11 @@ pub fn select_without_marks(
     nowhere: *const u8,
     file: Input,
     table: Input,
+    dialect: u8,
     pattern: u64,
 ) -> Result<Selected, String> {
     // SAFETY: any pointer is valid for writes of 0 bytes.
-    unsafe { select_into(nowhere.cast_mut(), 0, file, table, pattern) }
+    unsafe { select_into(nowhere.cast_mut(), 0, file, table, dialect, pattern) }
 }
 
 /// A selection whose marks are not looked at.
@@ -181,6 +210,7 @@ unsafe fn select_into(
     room: usize,
     file: Input,
     table: Input,
+    dialect: u8,
     pattern: u64,
 ) -> Result<Selected, String> {
     let mut out = Buffer::new(4, pattern);
@@ -194,6 +224,7 @@ unsafe fn select_into(
             file.len(),
             table.start(),
             table.len(),
+            dialect,
             out.start(),
         )
     };

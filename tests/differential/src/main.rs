@@ -1,4 +1,5 @@
-//! Compares the korzhinay library with the oracle on many inputs.
+//! Compares the korzhinay library with the oracle on many inputs, in both
+//! editions.
 //!
 //! The folder of `libkorzhinay.a` is given when this is built:
 //! `KORZHINAY_LIB_DIR=folder cargo run --release`.
@@ -7,6 +8,7 @@
 
 mod bars;
 mod crash;
+mod editions;
 mod evaluations;
 mod fields;
 mod gen;
@@ -14,6 +16,7 @@ mod isolation;
 mod lent;
 mod library;
 mod prng;
+mod read;
 mod report;
 mod selections;
 mod subject;

@@ -19,6 +19,12 @@ pub struct Tally {
     pub extra: u64,
     /// Accepted files with a bar outside parentheses in a condition that is read.
     pub with_bars: u64,
+    /// Expressions in which the old edition reads a bare word, by its answer; and
+    /// files that it accepts with one in a condition that is read.
+    pub with_bare_words: [u64; 256],
+    /// Files that the old edition accepts with `$(NAME)` after an `!ifdef` or
+    /// `!ifndef` that is read.
+    pub with_brackets: u64,
 }
 
 impl Tally {
@@ -28,12 +34,31 @@ impl Tally {
             placed: [0; 256],
             extra: 0,
             with_bars: 0,
+            with_bare_words: [0; 256],
+            with_brackets: 0,
         }
     }
 
     pub fn add(&mut self, answer: u8, offset: u64) {
         self.answers[usize::from(answer)] += 1;
         self.placed[usize::from(answer)] += u64::from(offset != 0);
+    }
+
+    /// What matters to some subjects, and how often it was met.
+    pub fn besides(&self) -> [(u64, &'static str); 4] {
+        let [accepted, refused @ ..] = self.with_bare_words;
+        [
+            (
+                self.with_bars,
+                "accepted with a bar outside parentheses in a read condition",
+            ),
+            (accepted, "accepted with a bare word"),
+            (refused.iter().sum(), "refused after a bare word"),
+            (
+                self.with_brackets,
+                "accepted with `$(NAME)` after `!ifdef` or `!ifndef`",
+            ),
+        ]
     }
 
     pub fn met(&self, answer: u8) -> u64 {

@@ -1,10 +1,13 @@
 //! Marks of description files: refusals 1, 3 to 7 and 9 to 22 with their lines
 //! and offsets, and every byte.
 
+use oracle::{Edition, EDITIONS};
+
 use crate::bars;
 use crate::crash;
+use crate::editions;
 use crate::gen::settings::{self, Names};
-use crate::gen::{files, nested, refused_lines, rivals, short_files, tables, values};
+use crate::gen::{bare_words, files, nested, refused_lines, rivals, short_files, tables, values};
 use crate::lent::{Input, Shown};
 use crate::library::{self, Selected};
 use crate::prng::Prng;
@@ -23,7 +26,7 @@ impl Subject for Selections {
     }
 
     fn units(&self) -> (&'static str, &'static str) {
-        ("files", "lines")
+        ("answers", "lines")
     }
 
     fn needed(&self) -> &'static [u8] {
@@ -37,7 +40,7 @@ impl Subject for Selections {
     }
 
     fn lacks(&self, random: &Tally) -> Option<String> {
-        bars::lack(random)
+        bars::lack(random).or_else(|| editions::lack_in_files(random))
     }
 
     fn fixed(&self, tally: &mut Tally) -> Result<(), Mismatch> {
@@ -64,6 +67,7 @@ impl Subject for Selections {
         }
         short_conditions(tally)?;
         refused_conditions(tally)?;
+        bare_words(tally)?;
         long_names(tally)?;
         for room in 0..6 {
             for (index, file) in [&b""[..], b"\n", b"a\nb", b"!if 1\n!endif\n\n", b"!"]
@@ -75,12 +79,22 @@ impl Subject for Selections {
                 }
             }
         }
+        for file in [&b"!ifdef $(A)\n!endif"[..], b"!if 'a' == a\n!endif"] {
+            let case = Case {
+                file,
+                table: &record,
+                room: 3,
+            };
+            for pattern in editions::all_patterns() {
+                case.compare(pattern, tally)?;
+            }
+        }
         Ok(())
     }
 
     fn case(&self, rng: &mut Prng, tally: &mut Tally) -> Result<(), Mismatch> {
         let table = settings::table(rng);
-        let names = Names::of(&table);
+        let names = Names::of(&table, rng.pick(&EDITIONS));
         for _ in 0..TO_A_TABLE {
             let file = files::any(rng, &names, &table);
             let case = Case {
@@ -106,13 +120,15 @@ fn without_bytes(tally: &mut Tally) -> Result<(), Mismatch> {
                     table: b"",
                     room: 0,
                 };
-                let given = crash::watched(file, || {
-                    library::select_without_marks(nowhere.start(), at, empty, 3)
-                });
-                case.check(given, 3, tally)?;
-                let wide = Case { room: 2, ..case };
-                let given = crash::watched(file, || library::select(at, empty, 2, 4));
-                wide.check(given, 4, tally)?;
+                for (dialect, edition) in [(0, Edition::New), (1, Edition::Old)] {
+                    let given = crash::watched(file, || {
+                        library::select_without_marks(nowhere.start(), at, empty, dialect, 3)
+                    });
+                    case.check(edition, given, 3, tally)?;
+                    let wide = Case { room: 2, ..case };
+                    let given = crash::watched(file, || library::select(at, empty, dialect, 2, 4));
+                    wide.check(edition, given, 4, tally)?;
+                }
             }
         }
     }
@@ -132,6 +148,21 @@ fn refused_conditions(tally: &mut Tally) -> Result<(), Mismatch> {
             };
             case.compare(8, tally)?;
         }
+    }
+    Ok(())
+}
+
+/// Conditions with bare words, and with what is nearly one.
+fn bare_words(tally: &mut Tally) -> Result<(), Mismatch> {
+    let string = tables::record(b"S", 1, b"ab");
+    for expr in bare_words::all() {
+        let file = [b"!if\t", &expr[..], b"\n!endif\n"].concat();
+        let case = Case {
+            file: &file,
+            table: &string,
+            room: 2,
+        };
+        case.compare(9, tally)?;
     }
     Ok(())
 }
@@ -195,17 +226,38 @@ pub struct Case<'a> {
 }
 
 impl Case<'_> {
+    /// Compares the selections in both editions.
     fn compare(&self, pattern: u64, tally: &mut Tally) -> Result<(), Mismatch> {
-        let given = self.call(pattern);
-        self.check(given, pattern, tally)
+        let [new, old] = editions::both(pattern, |edition| {
+            let given = self.call(edition, pattern);
+            self.check(edition, given, pattern, tally)
+        })?;
+        editions::count_file(self.file, &old.marks, tally);
+        if editions::agree(&new, &old, new.refusal, editions::OF_A_FILE) {
+            return Ok(());
+        }
+        let (new, old) = (write_selected(&new), write_selected(&old));
+        Err(editions::mismatch(
+            "another selection",
+            self.write(),
+            new,
+            old,
+        ))
     }
 
     /// Calls the library, and checks that it only reads the file and the table.
-    pub fn call(&self, pattern: u64) -> Result<Selected, String> {
+    pub fn call(&self, edition: Edition, pattern: u64) -> Result<Selected, String> {
         let shown = Shown::new(self.file, pattern);
         let shown_table = Shown::new(self.table, pattern >> 8);
         let given = crash::watched(self.file, || {
-            library::select(shown.input(), shown_table.input(), self.room, pattern)
+            let dialect = editions::dialect(edition, pattern);
+            library::select(
+                shown.input(),
+                shown_table.input(),
+                dialect,
+                self.room,
+                pattern,
+            )
         })?;
         shown.check("file").and(shown_table.check("table"))?;
         Ok(given)
@@ -214,17 +266,18 @@ impl Case<'_> {
     /// Compares what the library gave with what the oracle gives.
     fn check(
         &self,
+        edition: Edition,
         given: Result<Selected, String>,
         pattern: u64,
         tally: &mut Tally,
-    ) -> Result<(), Mismatch> {
-        let expected = self.expected(pattern);
+    ) -> Result<Selected, Mismatch> {
+        let expected = self.expected(edition, pattern);
         tally.add(expected.refusal, expected.offset);
         tally.extra += expected.lines;
-        tally.with_bars += u64::from(bars::in_read_condition(self.file, &expected.marks));
+        tally.with_bars += u64::from(bars::in_read_condition(self.file, &expected.marks, edition));
         let given = given.map_err(|what| self.broken_memory(what))?;
         match difference(&expected, &given) {
-            None => Ok(()),
+            None => Ok(given),
             Some(what) => Err(Mismatch {
                 what,
                 input: self.write(),
@@ -235,9 +288,9 @@ impl Case<'_> {
     }
 
     /// The oracle's answer in the library's form.
-    fn expected(&self, pattern: u64) -> Selected {
+    fn expected(&self, edition: Edition, pattern: u64) -> Selected {
         let mut marks = vec![pattern as u8; self.room];
-        let outcome = oracle::select(self.file, self.table, &mut marks);
+        let outcome = oracle::select(self.file, self.table, edition, &mut marks);
         let (lines, count) = outcome.unwrap_or((0, 0));
         let (refusal, line, offset) = outcome.err().map_or((0, 0, 0), |(refusal, line)| {
             (refusal.number, line, refusal.offset())

@@ -81,9 +81,10 @@ pub fn run(subject: &dyn Subject, load: &Load) -> bool {
     if random.extra > 0 {
         line += &format!(" and {} {extra}", random.extra);
     }
-    if random.with_bars > 0 {
-        let what = "accepted with a bar outside parentheses in a read condition";
-        line += &format!(", {} {what}", random.with_bars);
+    for (times, what) in random.besides() {
+        if times > 0 {
+            line += &format!(", {times} {what}");
+        }
     }
     line += &format!(
         ", {} fixed {unit}, no mismatch; accepted {}",

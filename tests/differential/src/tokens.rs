@@ -2,9 +2,11 @@
 //! read before them.
 
 use oracle::tokens::{Scan, MAX_TOKENS};
+use oracle::Edition;
 
 use crate::crash;
-use crate::gen::expressions as gen;
+use crate::editions;
+use crate::gen::{bare_words, expressions as gen};
 use crate::lent::{Input, Shown};
 use crate::library;
 use crate::prng::Prng;
@@ -19,11 +21,15 @@ impl Subject for Tokens {
     }
 
     fn units(&self) -> (&'static str, &'static str) {
-        ("expressions", "")
+        ("answers", "")
     }
 
     fn needed(&self) -> &'static [u8] {
         &[2, 3, 4, 5, 6]
+    }
+
+    fn lacks(&self, random: &Tally) -> Option<String> {
+        editions::lack_in_expressions(random, 3..=6)
     }
 
     fn fixed(&self, tally: &mut Tally) -> Result<(), Mismatch> {
@@ -50,6 +56,17 @@ impl Subject for Tokens {
                 }
             }
         }
+        for first in 0..=255 {
+            for second in 0..=255 {
+                compare(&[b'=', b'=', first, second], u64::from(first), tally)?;
+            }
+        }
+        for expr in bare_words::all() {
+            compare(&expr, expr.len() as u64, tally)?;
+        }
+        for pattern in editions::all_patterns() {
+            compare(b"'a' == foo AND foo", pattern, tally)?;
+        }
         Ok(())
     }
 
@@ -70,16 +87,55 @@ fn compare(expr: &[u8], pattern: u64, tally: &mut Tally) -> Result<(), Mismatch>
     })
 }
 
-/// Compares the scan of `expr`, which the library finds at `input`.
+/// Compares the scans of `expr`, which the library finds at `input`, in both
+/// editions.
 fn compare_at(input: Input, expr: &[u8], pattern: u64, tally: &mut Tally) -> Result<(), Mismatch> {
-    let scan = oracle::scan(expr);
+    let [new, old] = editions::both(pattern, |edition| {
+        compare_in(edition, input, expr, pattern, tally)
+    })?;
+    editions::count_expression(expr, new.refusal as u8, old.refusal as u8, tally);
+    match disagreement(&new, &old) {
+        None => Ok(()),
+        Some(what) => {
+            let (input, new) = (escaped(expr), write_library(&new));
+            Err(editions::mismatch(what, input, new, write_library(&old)))
+        }
+    }
+}
+
+/// What the two editions may not differ in, if they do.
+fn disagreement(new: &library::Tokens, old: &library::Tokens) -> Option<&'static str> {
+    let refusal = new.refusal as u8;
+    if !editions::agree(new, old, refusal, editions::OF_AN_EXPRESSION) {
+        return Some("another scan");
+    }
+    // Up to where the new edition stops, both read the same.
+    let read = new.count as usize;
+    let same = |place| new.token(place) == old.token(place);
+    if old.count < new.count || !(0..read).all(same) {
+        return Some("other tokens");
+    }
+    // Only 6 can be at a token that both have read.
+    (matches!(old.refusal, 3..=5) && old.offset < new.offset).then_some("an earlier refusal")
+}
+
+/// Compares the scan in one edition, and gives the library's.
+fn compare_in(
+    edition: Edition,
+    input: Input,
+    expr: &[u8],
+    pattern: u64,
+    tally: &mut Tally,
+) -> Result<library::Tokens, Mismatch> {
+    let scan = oracle::scan(expr, edition);
     let (refusal, offset) = refusal(&scan);
     tally.add(refusal, offset);
-    let given = crash::watched(expr, || library::tokens(input, pattern));
+    let dialect = editions::dialect(edition, pattern);
+    let given = crash::watched(expr, || library::tokens(input, dialect, pattern));
     let (what, library) = match given {
         Err(what) => (what, "does".to_string()),
         Ok(tokens) => match difference(&scan, &tokens) {
-            None => return Ok(()),
+            None => return Ok(tokens),
             Some(what) => (what, write_library(&tokens)),
         },
     };
@@ -125,13 +181,14 @@ fn difference(scan: &Scan, tokens: &library::Tokens) -> Option<String> {
                 tokens.values.pattern(),
             ),
         };
-        let wrong = if tokens.codes.cells()[place] != code {
+        let given = tokens.token(place);
+        let wrong = if given.0 != code {
             "code"
-        } else if tokens.starts.cells()[place] != start {
+        } else if given.1 != start {
             "start"
-        } else if tokens.lens.cells()[place] != len {
+        } else if given.2 != len {
             "length"
-        } else if tokens.values.cells()[place] != value {
+        } else if given.3 != value {
             "value"
         } else {
             continue;
@@ -161,12 +218,8 @@ fn write_library(tokens: &library::Tokens) -> String {
         tokens.refusal, tokens.offset, tokens.count
     );
     for place in 0..MAX_TOKENS.min(tokens.count as usize) {
-        out += &write_token(
-            tokens.codes.cells()[place],
-            usize::from(tokens.starts.cells()[place]),
-            usize::from(tokens.lens.cells()[place]),
-            tokens.values.cells()[place],
-        );
+        let (code, start, len, value) = tokens.token(place);
+        out += &write_token(code, usize::from(start), usize::from(len), value);
     }
     out
 }

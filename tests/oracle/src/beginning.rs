@@ -41,7 +41,7 @@ pub fn first_astray(tokens: &[Token]) -> Option<TokenId> {
 /// What is awaited after one more token, or none if it cannot stand here.
 fn step(awaited: Awaited, code: u8, open: &mut Vec<Open>) -> Option<Awaited> {
     match (awaited, code) {
-        (Awaited::Operand, code::NUMBER..=code::PCD) => Some(Awaited::Operator),
+        (Awaited::Operand, code::NUMBER..=code::BARE) => Some(Awaited::Operator),
         (Awaited::Operand, code::NOT | code::COMPLEMENT | code::PLUS | code::MINUS) => {
             Some(awaited)
         }

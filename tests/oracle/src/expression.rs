@@ -1,8 +1,10 @@
-//! The value of an expression (document 01, Kinds and values).
+//! The value of an expression (document 01, Kinds and values, and document 02,
+//! orders 1, 3 and 5).
 
 use crate::arithmetic::{binary, compare, is_comparison, unary};
 use crate::beginning::first_astray;
 use crate::bytes::{count_while, is_blank};
+use crate::edition::Edition;
 use crate::kinds::leftmost_wrong;
 use crate::refusal::{self, Refusal};
 use crate::table::{is_well_formed, lookup, Setting};
@@ -54,16 +56,21 @@ pub(crate) enum Bars {
 }
 
 /// The answer to one expression by itself: refusals 1 to 12, or its value.
-pub fn evaluate<'a>(expr: &'a [u8], table: &'a [u8]) -> Answer<'a> {
+pub fn evaluate<'a>(expr: &'a [u8], table: &'a [u8], edition: Edition) -> Answer<'a> {
     if !is_well_formed(table) {
         return Err(Refusal::nowhere(refusal::TABLE));
     }
-    evaluate_with(expr, table, Bars::Enclosed)
+    evaluate_with(expr, table, edition, Bars::Enclosed)
 }
 
 /// As `evaluate`, for a table that is known to be well formed.
-pub(crate) fn evaluate_with<'a>(expr: &'a [u8], table: &'a [u8], bars: Bars) -> Answer<'a> {
-    let Scan { tokens, refusal } = scan(expr);
+pub(crate) fn evaluate_with<'a>(
+    expr: &'a [u8],
+    table: &'a [u8],
+    edition: Edition,
+    bars: Bars,
+) -> Answer<'a> {
+    let Scan { tokens, refusal } = scan(expr, edition);
     if let Some(refusal) = refusal {
         return Err(refusal);
     }
@@ -120,6 +127,7 @@ fn operands<'a>(
             let bytes = &expr[token.start..token.start + token.len];
             Ok(match token.code {
                 code::TEXT => Value::Text(&bytes[1..bytes.len() - 1]),
+                code::BARE => Value::Text(bytes),
                 code::WIDE => Value::Wide(&bytes[2..bytes.len() - 1]),
                 code::MACRO => setting(&bytes[2..bytes.len() - 1]).unwrap_or(Value::Number(0)),
                 code::PCD => setting(bytes).ok_or(Refusal::at(refusal::PCD, token.start))?,

@@ -1,5 +1,6 @@
 //! The bytes of one PCD data field (document 01, Field bytes).
 
+use crate::edition::Edition;
 use crate::expression::{evaluate, Value};
 use crate::refusal::{self, Refusal};
 
@@ -15,8 +16,14 @@ pub mod datum {
 
 /// Writes the field to the front of `buf` and gives its length. A refusal
 /// writes nothing, so the length is compared before the first byte is written.
-pub fn field(expr: &[u8], table: &[u8], datum: u8, buf: &mut [u8]) -> Result<usize, Refusal> {
-    let value = evaluate(expr, table)?.value;
+pub fn field(
+    expr: &[u8],
+    table: &[u8],
+    datum: u8,
+    edition: Edition,
+    buf: &mut [u8],
+) -> Result<usize, Refusal> {
+    let value = evaluate(expr, table, edition)?.value;
     write(value, datum, buf).map_err(Refusal::nowhere)
 }
 

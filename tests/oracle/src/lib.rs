@@ -1,4 +1,4 @@
-//! A plain second implementation of document 01, and of orders 1 and 3 of
+//! A plain second implementation of document 01, and of orders 1, 3 and 5 of
 //! document 02.
 //!
 //! It exists to be compared with the product and to be timed against it, so
@@ -9,6 +9,7 @@
 mod arithmetic;
 pub mod beginning;
 pub mod bytes;
+mod edition;
 pub mod expression;
 pub mod field;
 mod kinds;
@@ -19,6 +20,7 @@ pub mod table;
 pub mod tokens;
 pub mod tree;
 
+pub use edition::{Edition, EDITIONS};
 pub use expression::{evaluate, Answer, Kind, Outcome, Value};
 pub use field::field;
 pub use refusal::Refusal;

@@ -1,7 +1,8 @@
 //! Which lines of a file are kept (document 01, Lines and directives, and
-//! document 02, orders 1 and 3).
+//! document 02, orders 1, 3 and 5).
 
 use crate::bytes::{is_blank, macro_length, skip_blanks};
+use crate::edition::Edition;
 use crate::expression::{evaluate_with, Bars, Value};
 use crate::lines::{lines, sort, Line, Word};
 use crate::refusal::{self, Refusal};
@@ -32,15 +33,15 @@ pub mod mark {
 pub type Selection = Result<(usize, u64), (Refusal, usize)>;
 
 /// Marks every line of the file. A refusal sets all of `marks` to 255.
-pub fn select(file: &[u8], table: &[u8], marks: &mut [u8]) -> Selection {
-    let result = run(file, table, marks);
+pub fn select(file: &[u8], table: &[u8], edition: Edition, marks: &mut [u8]) -> Selection {
+    let result = run(file, table, edition, marks);
     if result.is_err() {
         marks.fill(mark::REFUSED);
     }
     result
 }
 
-fn run(file: &[u8], table: &[u8], marks: &mut [u8]) -> Selection {
+fn run(file: &[u8], table: &[u8], edition: Edition, marks: &mut [u8]) -> Selection {
     if !is_well_formed(table) {
         return Err((Refusal::nowhere(refusal::TABLE), 0));
     }
@@ -56,6 +57,7 @@ fn run(file: &[u8], table: &[u8], marks: &mut [u8]) -> Selection {
     }
     let mut state = State {
         table,
+        edition,
         groups: Vec::new(),
         count: 0,
     };
@@ -87,6 +89,7 @@ struct Group {
 
 struct State<'a> {
     table: &'a [u8],
+    edition: Edition,
     groups: Vec<Group>,
     count: u64,
 }
@@ -186,7 +189,7 @@ impl State<'_> {
             Word::Ifdef => self.defined(argument),
             Word::Ifndef => Ok(!self.defined(argument)?),
             _ => {
-                let outcome = evaluate_with(argument, self.table, Bars::Free)?;
+                let outcome = evaluate_with(argument, self.table, self.edition, Bars::Free)?;
                 self.count += outcome.count;
                 match outcome.value {
                     Value::Number(0) => Ok(false),
@@ -197,11 +200,12 @@ impl State<'_> {
         }
     }
 
-    /// Whether the one macro that the argument names is in the table.
+    /// Whether the one macro that the argument names is in the table. Only the
+    /// old edition takes it as `$(NAME)` too.
     fn defined(&self, argument: &[u8]) -> Result<bool, Refusal> {
         let text = skip_blanks(argument);
-        let (text, bracketed) = match text {
-            [b'$', b'(', inside @ ..] => (inside, true),
+        let (text, bracketed) = match (self.edition, text) {
+            (Edition::Old, [b'$', b'(', inside @ ..]) => (inside, true),
             _ => (text, false),
         };
         let (name, mut rest) = text.split_at(macro_length(text));

@@ -1,6 +1,8 @@
-//! From the bytes of an expression to its tokens (document 01, Tokens).
+//! From the bytes of an expression to its tokens (document 01, Tokens, and
+//! document 02, order 5).
 
 use crate::bytes::{count_while, is_blank, is_run, macro_length, pcd_length};
+use crate::edition::Edition;
 use crate::refusal::{self, Refusal};
 
 pub const MAX_BYTES: usize = 1024;
@@ -15,6 +17,8 @@ pub mod code {
     pub const WIDE: u8 = 3;
     pub const MACRO: u8 = 4;
     pub const PCD: u8 = 5;
+    /// A string without quotes, in the old edition only.
+    pub const BARE: u8 = 6;
     pub const OPEN: u8 = 10;
     pub const CLOSE: u8 = 11;
     pub const QUESTION: u8 = 12;
@@ -63,13 +67,13 @@ pub struct Scan {
 }
 
 /// Reads the whole expression; gives refusals 2 to 6.
-pub fn scan(expr: &[u8]) -> Scan {
+pub fn scan(expr: &[u8], edition: Edition) -> Scan {
     let mut tokens = Vec::new();
-    let refusal = read_all(expr, &mut tokens).err();
+    let refusal = read_all(expr, edition, &mut tokens).err();
     Scan { tokens, refusal }
 }
 
-fn read_all(expr: &[u8], tokens: &mut Vec<Token>) -> Result<(), Refusal> {
+fn read_all(expr: &[u8], edition: Edition, tokens: &mut Vec<Token>) -> Result<(), Refusal> {
     if expr.len() > MAX_BYTES {
         return Err(Refusal::nowhere(refusal::EXPRESSION_LENGTH));
     }
@@ -84,7 +88,9 @@ fn read_all(expr: &[u8], tokens: &mut Vec<Token>) -> Result<(), Refusal> {
         if tokens.len() == MAX_TOKENS {
             return Err(Refusal::at(refusal::TOKEN_COUNT, start));
         }
-        let (code, len, value) = read_one(rest).map_err(|number| Refusal::at(number, start))?;
+        let bare = edition == Edition::Old && tokens.last().is_some_and(is_equality);
+        let (code, len, value) =
+            read_one(rest, bare).map_err(|number| Refusal::at(number, start))?;
         tokens.push(Token {
             code,
             start,
@@ -97,6 +103,12 @@ fn read_all(expr: &[u8], tokens: &mut Vec<Token>) -> Result<(), Refusal> {
         Some((token, _)) => Err(Refusal::at(refusal::DEPTH, token.start)),
         None => Ok(()),
     }
+}
+
+/// Whether this token is an operator after which the old edition takes a bare
+/// word: `==`, `!=`, `EQ` or `NE`.
+fn is_equality(token: &Token) -> bool {
+    matches!(token.code, code::EQUAL | code::UNEQUAL)
 }
 
 /// Each token with how many more `(` than `)` there are up to it, itself
@@ -123,10 +135,11 @@ pub fn bar_outside(tokens: &[Token]) -> Option<&Token> {
 /// Code, length and value of the token at the front of `rest`.
 type Read = Result<(u8, usize, u64), u8>;
 
-fn read_one(rest: &[u8]) -> Read {
+/// `bare` says whether a bare word may be here.
+fn read_one(rest: &[u8], bare: bool) -> Read {
     match rest[0] {
         b'0'..=b'9' => read_number(rest),
-        b'A'..=b'Z' | b'a'..=b'z' | b'_' => read_word(rest),
+        b'A'..=b'Z' | b'a'..=b'z' | b'_' => read_word(rest, bare),
         b'"' | b'\'' => Ok((code::TEXT, quoted_length(rest)?, 0)),
         b'$' => read_macro(rest),
         _ => read_symbol(rest),
@@ -155,9 +168,10 @@ fn read_number(rest: &[u8]) -> Read {
     Ok((code::NUMBER, run.len(), value.ok_or(refusal::LITERAL)?))
 }
 
-fn read_word(rest: &[u8]) -> Read {
+fn read_word(rest: &[u8], bare: bool) -> Read {
     let run = &rest[..count_while(rest, is_run)];
     if run == b"L" && matches!(rest.get(1), Some(b'"' | b'\'')) {
+        // Without its end it is a bad string, never a bare word `L`.
         return Ok((code::WIDE, 1 + quoted_length(&rest[1..])?, 0));
     }
     // Before the words, since `AND.b` is a PCD.
@@ -178,6 +192,7 @@ fn read_word(rest: &[u8]) -> Read {
         b"AND" | b"and" => (code::AND, 0),
         b"XOR" | b"xor" => (code::XOR, 0),
         b"OR" | b"or" => (code::OR, 0),
+        _ if bare => (code::BARE, 0),
         _ => return Err(refusal::TOKEN),
     };
     Ok((code, run.len(), value))

@@ -134,7 +134,13 @@ impl Parser<'_> {
                 self.take(code::CLOSE)?;
                 Some(inner)
             }
-            code::NUMBER | code::TRUTH | code::TEXT | code::WIDE | code::MACRO | code::PCD => {
+            code::NUMBER
+            | code::TRUTH
+            | code::TEXT
+            | code::WIDE
+            | code::MACRO
+            | code::PCD
+            | code::BARE => {
                 self.next += 1;
                 Some(self.add(Node::Operand(self.next - 1)))
             }

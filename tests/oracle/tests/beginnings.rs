@@ -25,7 +25,7 @@ type Rule = (Symbol, Vec<Symbol>);
 fn rules() -> Vec<Rule> {
     let token = |codes| Symbol::Token(codes);
     let mut rules = vec![
-        (Primary, vec![token(&[0, 1, 2, 3, 4, 5])]),
+        (Primary, vec![token(&[0, 1, 2, 3, 4, 5, 6])]),
         (
             Primary,
             vec![token(&[code::OPEN]), Level(13), token(&[code::CLOSE])],
@@ -158,7 +158,7 @@ fn all_short_token_lists() {
 
 #[test]
 fn every_two_codes_after_good_beginnings() {
-    let codes: Vec<u8> = (0..=5).chain(10..=35).collect();
+    let codes: Vec<u8> = (0..=6).chain(10..=35).collect();
     let rules = rules();
     for before in [&[][..], &[0], &[10], &[10, 0], &[0, 12], &[0, 12, 0, 13]] {
         for &first in &codes {
@@ -175,13 +175,13 @@ fn list(rng: &mut Prng, length: usize) -> Vec<u8> {
     let mut operand = true;
     while codes.len() < length {
         codes.push(match (operand, rng.below(6)) {
-            (true, 0..=3) => rng.below(6) as u8,
+            (true, 0..=3) => rng.below(7) as u8,
             (true, 4) => code::OPEN,
             (true, _) => rng.pick(&[code::NOT, code::COMPLEMENT, code::PLUS, code::MINUS]),
             (false, 0 | 1) => rng.pick(&[code::CLOSE, code::COLON, code::QUESTION]),
             _ => code::PLUS + rng.below(20) as u8,
         });
-        operand = !matches!(codes.last(), Some(0..=5 | &code::CLOSE));
+        operand = !matches!(codes.last(), Some(0..=6 | &code::CLOSE));
     }
     codes
 }

@@ -5,7 +5,6 @@
 mod common;
 
 use common::*;
-use oracle::evaluate;
 
 /// An expression as text, with the place of its operator and its parts with
 /// their places in it.

@@ -1,24 +1,27 @@
 //! Demand 3 tried on random pairs of files and tables: what an accepted run
 //! does not read makes no difference. Conditions have bars outside parentheses
-//! too (document 02, order 1).
+//! too (document 02, order 1), and both runs are in the same edition (order 5).
 
 mod common;
 
 use common::*;
 use oracle::lines::{lines, sort, Line, Word};
 use oracle::tokens::{code, scan};
+use oracle::{Edition, EDITIONS};
 
 const NAMES: [&str; 5] = ["A", "B", "C", "g.P", "g.Q"];
 
 /// Texts for unread directives. None starts with a letter, which would go on
 /// with the word.
-const JUNK: [&str; 8] = [
+const JUNK: [&str; 10] = [
     "",
     " @",
     " 1 / 0",
     "9x",
     " 'a",
     " $(A) == g.P",
+    " $(A) == foo bar",
+    " $(a)",
     " 1 || g.P",
     "| 1",
 ];
@@ -45,9 +48,15 @@ fn any_condition(rng: &mut Prng) -> String {
     let operand = |rng: &mut Prng| rng.pick(&["0", "1", "$(A)", "$(B)", "$(C)", "g.P", "g.Q"]);
     let operator = rng.pick(&["==", "!=", "<", "AND", "OR", "-", "|", "||"]);
     let (left, right) = (operand(rng), operand(rng));
-    match rng.below(3) {
+    match rng.below(4) {
         0 => left.to_string(),
         1 => format!("{left} {operator} {right}"),
+        // A bare word, which only the old edition takes.
+        2 => {
+            let left = rng.pick(&[left, "'a'", "'b'"]);
+            let operator = rng.pick(&["==", "!=", "EQ", "NE"]);
+            format!("{left} {operator} {}", rng.pick(&["a", "b", "A"]))
+        }
         _ => format!("!{left} {} {right} == 1 # c", rng.pick(&["OR", "||"])),
     }
 }
@@ -87,11 +96,11 @@ fn any_end(rng: &mut Prng) -> &'static str {
     rng.pick(&["\n", "\r\n"])
 }
 
-/// The names that a read directive depends on.
-fn named(word: Word, argument: &[u8]) -> Vec<String> {
+/// The names that a read directive depends on. A bare word is none.
+fn named(word: Word, argument: &[u8], edition: Edition) -> Vec<String> {
     let string = |bytes: &[u8]| String::from_utf8(bytes.to_vec()).unwrap();
     match word {
-        Word::If | Word::Elseif => scan(argument)
+        Word::If | Word::Elseif => scan(argument, edition)
             .tokens
             .iter()
             .filter_map(|token| {
@@ -111,11 +120,16 @@ fn named(word: Word, argument: &[u8]) -> Vec<String> {
     }
 }
 
+fn is_test(word: Word) -> bool {
+    matches!(word, Word::Ifdef | Word::Ifndef)
+}
+
 #[test]
 fn unread_text_makes_no_difference() {
     let mut rng = Prng(3);
-    let (mut accepted, mut with_bars) = (0, 0);
-    for _ in 0..20_000 {
+    let (mut accepted, mut with_bars, mut bare, mut bracketed) = ([0; 2], 0, 0, 0);
+    for turn in 0..40_000 {
+        let edition = EDITIONS[turn % 2];
         let mut written = Vec::new();
         any_lines(&mut rng, 3, &mut written);
         let file: String = written
@@ -123,9 +137,9 @@ fn unread_text_makes_no_difference() {
             .map(|line| format!("{line}{}", any_end(&mut rng)))
             .collect();
         let first_table = any_table(&mut rng);
-        let first = marks_in(file.as_bytes(), &first_table.concat());
+        let first = selected_in(edition, file.as_bytes(), &first_table.concat());
         let Ok((marks, _)) = &first else { continue };
-        accepted += usize::from(marks.contains(&2));
+        accepted[turn % 2] += usize::from(marks.contains(&2));
 
         let mut fixed = Vec::new();
         let mut second = Vec::new();
@@ -145,7 +159,10 @@ fn unread_text_makes_no_difference() {
                 }
                 Line::Directive { word, argument } => {
                     with_bars += usize::from(argument.contains(&b'|'));
-                    fixed.extend(named(word, argument));
+                    let read = scan(argument, edition).tokens;
+                    bare += usize::from(read.iter().any(|token| token.code == code::BARE));
+                    bracketed += usize::from(is_test(word) && argument.contains(&b'$'));
+                    fixed.extend(named(word, argument, edition));
                     second.extend(line);
                 }
             }
@@ -159,8 +176,9 @@ fn unread_text_makes_no_difference() {
         second_table.retain(|record| !is_fixed(record));
         second_table.extend(first_table.iter().filter(|record| is_fixed(record)));
         let second_table = table(&second_table);
-        assert_eq!(marks_in(&second, &second_table), first, "{file}");
+        let second = selected_in(edition, &second, &second_table);
+        assert_eq!(second, first, "{file}");
     }
-    assert!(accepted > 1_000, "{accepted}");
-    assert!(with_bars > 1_000, "{with_bars}");
+    let met = [accepted[0], accepted[1], with_bars, bare, bracketed];
+    assert!(met.iter().all(|&times| times > 1_000), "{met:?}");
 }

@@ -5,7 +5,7 @@ mod common;
 use common::*;
 use oracle::table::CONTENT;
 use oracle::tokens::code;
-use oracle::{evaluate, field, is_well_formed, lookup, scan, select, Refusal, Setting, Value};
+use oracle::{is_well_formed, lookup, Refusal, Setting, Value};
 
 #[test]
 fn small_ones_to_prove() {
@@ -610,19 +610,18 @@ fn ifdef_arguments() {
     let first = |line: &str| {
         marks_in(format!("{line}\n!endif").as_bytes(), &table).map(|(marks, _)| marks[0])
     };
+    // Those with `$( )` are in order05.rs.
     for taken in [
         "!ifdef A",
-        "!ifdef $(A)",
         "!ifdef \t A \t",
         "!ifdef B # c",
-        "!ifdef $(B)# c",
+        "!ifdef B# c",
         "!ifndef C",
-        "!ifndef $(C)",
         "!ifdef AND",
     ] {
         assert_eq!(first(taken), Ok(4), "{taken}");
     }
-    for not in ["!ifdef C", "!ifdef $(C)", "!ifndef A", "!ifndef $(B) #"] {
+    for not in ["!ifdef C", "!ifndef A", "!ifndef B #"] {
         assert_eq!(first(not), Ok(3), "{not}");
     }
     for bad in [

@@ -3,10 +3,10 @@
 
 mod common;
 
-use common::{tokens, Prng, OPERATORS};
-use oracle::tokens::{code, scan};
+use common::{evaluate, scan, tokens, Prng, OPERATORS};
+use oracle::tokens::code;
 use oracle::tree::{parse, Node, Tree};
-use oracle::{evaluate, Outcome};
+use oracle::Outcome;
 
 /// Every derivation of `codes` at a level, each written with brackets and the
 /// tokens by their numbers. The first token's number is `from`.
@@ -46,7 +46,7 @@ fn unary(codes: &[u8], from: usize) -> Vec<String> {
                 .collect()
         }
         [code::OPEN, inside @ .., code::CLOSE] => derivations(13, inside, from + 1),
-        [0..=5] => vec![format!("#{from}")],
+        [code::NUMBER..=code::BARE] => vec![format!("#{from}")],
         _ => Vec::new(),
     }
 }
@@ -133,7 +133,7 @@ fn all_short_token_lists() {
 fn derived(rng: &mut Prng, size: usize) -> Vec<u8> {
     let half = size / 2;
     match rng.below(if size < 3 { 2 } else { 6 }) {
-        0 | 1 => vec![rng.pick(&[0, 1, 2, 3, 4, 5])],
+        0 | 1 => vec![rng.below(7) as u8],
         2 => [vec![rng.pick(&[14, 15, 16, 17])], derived(rng, size - 1)].concat(),
         3 => [vec![10], derived(rng, size - 2), vec![11]].concat(),
         4 => {

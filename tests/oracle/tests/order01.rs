@@ -4,7 +4,7 @@
 mod common;
 
 use common::*;
-use oracle::{evaluate, field, scan, Value};
+use oracle::Value;
 
 const TAKEN: u8 = 4;
 const NOT_TAKEN: u8 = 3;

@@ -4,7 +4,7 @@
 mod common;
 
 use common::*;
-use oracle::{evaluate, field, scan, Refusal};
+use oracle::Refusal;
 
 /// The text without its `§`, and where that was.
 fn unmarked(marked: &str) -> (String, usize) {
@@ -617,7 +617,7 @@ fn a29_lines_refused_without_a_place() {
         (15, &[b'\n'; 4_097], b""),
         (16, b" !if @\n\n", b""),
     ] {
-        let given = oracle::select(file, table, &mut marks);
+        let given = select(file, table, &mut marks);
         assert_eq!(given, Err((Refusal::nowhere(number), 0)));
     }
 }

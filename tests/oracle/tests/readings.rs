@@ -3,7 +3,7 @@
 mod common;
 
 use common::*;
-use oracle::{evaluate, field, is_well_formed, scan, select, Refusal, Value};
+use oracle::{is_well_formed, Refusal, Value};
 
 #[test]
 fn a1_else_and_endif_need_no_blank() {

@@ -3,6 +3,7 @@
 use super::report::Report;
 use crate::examined::Examined;
 use crate::library::mark;
+use crate::notes;
 use crate::terminal::{annotated, escaped, lines, object, without_end, Json, Members};
 
 /// The answer in one of the forms; on a terminal it may have colours.
@@ -63,7 +64,7 @@ pub fn kept(file: &Examined) -> usize {
 
 /// What --json says of the run.
 fn members(files: &[Examined], report: &Report) -> Members {
-    let of_file = |(file, notes): (&Examined, &Vec<_>)| {
+    let of_file = |(file, noted): (&Examined, &Vec<_>)| {
         let (operators, marks, refusal) = match &file.outcome {
             Ok(found) => (found.operators, found.marks.as_slice(), Json::Null),
             Err(refused) => (0, [].as_slice(), refused.json.clone()),
@@ -75,13 +76,13 @@ fn members(files: &[Examined], report: &Report) -> Members {
             ("kept", Json::Number(kept(file) as u64)),
             ("operators", Json::Number(operators)),
             ("marks", Json::List(marks.collect())),
-            ("notes", super::report::json(notes)),
+            ("notes", notes::json(noted)),
             ("refusal", refusal),
         ])
     };
     let parts = files.iter().zip(&report.of_files).map(of_file);
     vec![
         ("files", Json::List(parts.collect())),
-        ("notes", super::report::json(&report.of_run)),
+        ("notes", notes::json(&report.of_run)),
     ]
 }

@@ -2,9 +2,9 @@
 
 use super::forms::kept;
 use crate::examined::Examined;
-use crate::notes::{self, Note};
+use crate::notes::{self, messages, Note};
 use crate::settings::Settings;
-use crate::terminal::{lines, Json};
+use crate::terminal::lines;
 
 /// The notes of a run.
 pub struct Report {
@@ -15,12 +15,14 @@ pub struct Report {
 }
 
 impl Report {
-    pub fn new(files: &[Examined], settings: &Settings) -> Report {
+    /// The report with all notes; `warns_old` is for those on what the new edition would refuse.
+    pub fn new(files: &[Examined], settings: &Settings, warns_old: bool) -> Report {
         let mentions: Vec<Vec<_>> = files
             .iter()
             .map(|one| one.read_mentions().collect())
             .collect();
-        let of_file = |(file, mentions): (_, &Vec<_>)| notes::of_file(file, mentions, settings);
+        let of_file =
+            |(file, mentions): (_, &Vec<_>)| notes::of_file(file, mentions, settings, warns_old);
         // In a file that is refused it is not known which directives are read.
         let is_refused = files.iter().any(|file| file.outcome.is_err());
         let named = mentions.iter().flatten().map(|(_, mention)| mention);
@@ -76,14 +78,6 @@ impl Report {
         let (files, notes) = (counted(files.len(), "file"), counted(self.count(), "note"));
         format!("korzhinay: {files}, {outcome}, {notes}\n")
     }
-}
-
-fn messages(notes: &[Note]) -> String {
-    notes.iter().map(Note::message).collect()
-}
-
-pub fn json(notes: &[Note]) -> Json {
-    Json::List(notes.iter().map(Note::json).collect())
 }
 
 fn counted(count: usize, word: &str) -> String {

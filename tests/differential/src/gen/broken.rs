@@ -9,8 +9,8 @@ use crate::prng::Prng;
 /// A token of every class that the grammar distinguishes, brackets and the
 /// parts of a choice more than once.
 #[rustfmt::skip]
-const TOKENS: [&str; 20] = [
-    "1", "'a'", "$(A)", "g.Num", "(", "(", "(", ")", ")", ")", "?", "?", ":", ":", "!", "-", "NOT", "*", "AND", "==",
+const TOKENS: [&str; 22] = [
+    "1", "a", "L", "'a'", "$(A)", "g.Num", "(", "(", "(", ")", ")", ")", "?", "?", ":", ":", "!", "-", "NOT", "*", "AND", "==",
 ];
 
 pub fn broken(rng: &mut Prng, names: &Names) -> Vec<u8> {

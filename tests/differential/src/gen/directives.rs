@@ -1,5 +1,6 @@
 //! What follows a directive's word, and lines made of it.
 
+use super::bare_words;
 use super::expressions::damage;
 use super::formulas::{formula, Place, COMPARISONS};
 use super::names::{macro_name, NUMBERS, TEXTS, WIDES};
@@ -31,6 +32,7 @@ pub const RUBBISH: &[&[u8]] = &[
     b"", b" ", b"\t", b"#", b" #", b" # c", b"#c", b" @", b"@", b" 1 / 0", b"9x", b"_", b" 'a", b"'", b" x", b"(1)",
     b" $(A", b"$(A)", b" A B", b" a", b" 2", b" 'a'", b" 1 2", b" g.None", b" \xff\0", b"\xe9", b"\r", b" 1\r", b"\x0b1",
     b" !if 1", b" 18446744073709551616", b" ((((((((((((((((((1", b" $(A) == g.P", b" A.b", b" $( A )",
+    b" $(A)", b"\t$(A)#", b" $(A) B", b" $()", b" $(A))", b" ${A}", b" $(a)", b" 'a' == a", b" 'a' NE a b", b" 'a' == L'a", b" foo",
     b" 1 | 1", b" 2 | 1", b" 1 || 1 / 0", b" 0 || 1 / 0", b" 1 || 'a'", b" 1 || g.None", b" 1 ||", b" || 1", b" A || B", b"|", b"||1",
 ];
 
@@ -104,6 +106,10 @@ fn truth(rng: &mut Prng, names: &Names) -> Vec<u8> {
 
 /// Two operands of one kind, compared.
 fn comparison(rng: &mut Prng, names: &Names) -> Vec<u8> {
+    if names.takes_old_spelling(rng) {
+        let left = written(names.pick(rng, Kind::Text));
+        return bare_words::equality(rng, &left);
+    }
     let (operator, _) = rng.pick(&COMPARISONS);
     let kind = rng.pick(&[
         Kind::Number,
@@ -159,21 +165,46 @@ pub fn name(rng: &mut Prng, names: &Names) -> Vec<u8> {
         _ => name,
     };
     let (open, close): (&[u8], &[u8]) = match rng.below(40) {
-        0 => rng.pick(&[
-            (&b"$("[..], &b""[..]),
-            (b"", b")"),
-            (b"$( ", b")"),
-            (b"'", b"'"),
-            (b"", b" B"),
-            (b"", b" || B"),
-            (b"", b".x"),
-        ]),
+        0 => rng.pick(&BROKEN_BRACKETS),
         1 => return rng.pick(RUBBISH).to_vec(),
-        2..=20 => (b"$(", b")"),
+        _ if names.takes_old_spelling(rng) => (b"$(", b")"),
         _ => (b"", b""),
     };
     let blank: &[u8] = rng.pick(&[&b" "[..], b" ", b"\t", b" \t "]);
     [blank, open, &name, close, tail(rng)].concat()
+}
+
+/// What can be round a macro's name and is wrong after `!ifdef` in both editions.
+#[rustfmt::skip]
+const BROKEN_BRACKETS: [(&[u8], &[u8]); 33] = [
+    (b"$(", b""), (b"", b")"), (b"$( ", b")"), (b"$(", b" )"), (b"$ (", b")"), (b"$", b""), (b"$", b")"), (b"(", b")"), (b"${", b"}"),
+    (b"$(", b"}"), (b"$[", b"]"), (b"$((", b"))"), (b"$(", b"))"), (b"$$(", b")"), (b"$(_", b")"), (b"$(1", b")"), (b"$(a", b")"),
+    (b"$(", b"a)"), (b"$(", b".x)"), (b"$(", b")B"), (b"$(", b") B"), (b"$(", b")$(A)"), (b"$(", b")@"), (b"$(", b")\r\r"),
+    (b"$(", b"#)"), (b"$(#", b")"), (b"'$(", b")'"), (b"!$(", b")"), (b"$(", b") || $(B)"), (b"'", b"'"), (b"", b" B"), (b"", b" || B"),
+    (b"", b".x"),
+];
+
+/// Brackets and no name, a broken one, or a good one with broken brackets.
+pub fn broken_name(rng: &mut Prng, names: &Names) -> Vec<u8> {
+    let (open, close) = rng.pick(&BROKEN_BRACKETS);
+    let macro_name = names.pick(rng, Kind::Number).to_ascii_uppercase();
+    let name: &[u8] = match rng.below(6) {
+        0 => b"",
+        1 => rng.pick(&[&b"a"[..], b"_", b"1", b"A.B", b"A B", b"A)"]),
+        _ => &macro_name,
+    };
+    let (open, close) = match rng.below(4) {
+        0 => (&b"$("[..], &b")"[..]),
+        _ => (open, close),
+    };
+    [
+        rng.pick(&[&b" "[..], b"\t", b""]),
+        open,
+        name,
+        close,
+        tail(rng),
+    ]
+    .concat()
 }
 
 /// Mostly a text that is right after `!else` and `!endif`.

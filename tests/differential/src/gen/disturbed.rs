@@ -6,13 +6,14 @@ use std::collections::BTreeSet;
 use oracle::lines::{lines, sort, Line, Word};
 use oracle::selection::mark;
 use oracle::table::RECORD;
+use oracle::Edition;
 
 use super::tables::name_in;
 use crate::prng::Prng;
 
 /// The file with one read directive changed so that its mark is another, or
 /// its text is malformed. None if it reads none.
-pub fn file(rng: &mut Prng, file: &[u8], marks: &[u8]) -> Option<Vec<u8>> {
+pub fn file(rng: &mut Prng, file: &[u8], marks: &[u8], edition: Edition) -> Option<Vec<u8>> {
     let read: Vec<usize> = (0..marks.len())
         .filter(|&index| marks[index] >= mark::NOT_TAKEN)
         .collect();
@@ -25,7 +26,7 @@ pub fn file(rng: &mut Prng, file: &[u8], marks: &[u8]) -> Option<Vec<u8>> {
         match sort(line) {
             Ok(Line::Directive { word, .. }) if index == chosen => {
                 let taken = marks[index] == mark::TAKEN;
-                second.extend(other_outcome(rng, word, taken));
+                second.extend(other_outcome(rng, word, taken, edition));
             }
             _ => second.extend(line),
         }
@@ -38,16 +39,19 @@ pub fn file(rng: &mut Prng, file: &[u8], marks: &[u8]) -> Option<Vec<u8>> {
     Some(second)
 }
 
-fn other_outcome(rng: &mut Prng, word: Word, taken: bool) -> &'static [u8] {
-    let lines: [&[u8]; 2] = match (word, taken) {
-        (Word::If, true) => [b"!if 0", b"!if 0 || 0"],
-        (Word::If, false) => [b"!if 1", b"!if 0 | 1"],
-        (Word::Elseif, true) => [b"!elif 0", b"!elif 0 | 0"],
-        (Word::Elseif, false) => [b"!elif 1", b"!elif 1 || 0"],
-        (Word::Ifdef, _) => [b"!ifdef a", b"!ifdef A || B"],
-        (Word::Ifndef, _) => [b"!ifndef", b"!ifndef A | B"],
-        (Word::Else, _) => [b"!else x", b"!else |"],
-        (Word::Endif, _) => [b"!endif x", b"!endif ||"],
+fn other_outcome(rng: &mut Prng, word: Word, taken: bool, edition: Edition) -> &'static [u8] {
+    // The last of each has old spelling, or nearly so.
+    let lines: [&[u8]; 3] = match (word, taken) {
+        (Word::If, true) => [b"!if 0", b"!if 0 || 0", b"!if 'a' != a"],
+        (Word::If, false) => [b"!if 1", b"!if 0 | 1", b"!if 'a' EQ a"],
+        (Word::Elseif, true) => [b"!elif 0", b"!elif 0 | 0", b"!elif 'a' == b"],
+        (Word::Elseif, false) => [b"!elif 1", b"!elif 1 || 0", b"!elif 'a' NE b"],
+        (Word::Ifdef, _) if edition == Edition::New => [b"!ifdef a", b"!ifdef", b"!ifdef $(A)"],
+        (Word::Ifndef, _) if edition == Edition::New => [b"!ifndef", b"!ifndef a", b"!ifndef $(A)"],
+        (Word::Ifdef, _) => [b"!ifdef a", b"!ifdef A || B", b"!ifdef $(A"],
+        (Word::Ifndef, _) => [b"!ifndef", b"!ifndef A | B", b"!ifndef $(A)B"],
+        (Word::Else, _) => [b"!else x", b"!else |", b"!else $(A)"],
+        (Word::Endif, _) => [b"!endif x", b"!endif ||", b"!endif $(A)"],
     };
     rng.pick(&lines)
 }

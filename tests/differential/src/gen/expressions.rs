@@ -1,17 +1,20 @@
 //! Expressions, good and bad.
 
+use super::bare_words::{self, EQUALITIES};
 use super::lexemes::{BAD_TAILS, GOOD, NAMED, NEARLY, STRAYS, SYMBOLS, TAILS};
 use super::names::{macro_name, pcd_name, NUMBERS, TEXTS, WIDES};
 use crate::prng::Prng;
 
 /// Any expression.
 pub fn any(rng: &mut Prng) -> Vec<u8> {
-    let mut expr = match rng.below(12) {
+    let mut expr = match rng.below(15) {
         0 => random_bytes(rng),
         1..=3 => soup(rng),
         4 | 5 => valid(rng),
         6 => damaged(rng, soup),
         7 | 8 => damaged(rng, valid),
+        9 | 10 => bare_words::any(rng),
+        11 => damaged(rng, bare_words::any),
         _ => near_a_limit(rng),
     };
     if rng.one_in(10) {
@@ -44,23 +47,31 @@ fn soup(rng: &mut Prng) -> Vec<u8> {
     };
     // Some have good tokens only, so that long ones are read to their end.
     let bad_one_in = rng.pick(&[4, 20, 60, 1_000_000]);
-    let pieces: Vec<Vec<u8>> = (0..len)
-        .map(|_| {
-            if !rng.one_in(bad_one_in) {
-                rng.pick(GOOD).to_vec()
-            } else if rng.one_in(4) {
-                vec![rng.pick(STRAYS)]
-            } else {
-                rng.pick(NEARLY).to_vec()
-            }
-        })
-        .collect();
+    let mut pieces: Vec<Vec<u8>> = Vec::new();
+    for _ in 0..len {
+        let after_equality = pieces.last().is_some_and(|last| is_equality(last));
+        pieces.push(if after_equality && rng.one_in(2) {
+            bare_words::word(rng).into()
+        } else if !rng.one_in(bad_one_in) {
+            rng.pick(GOOD).to_vec()
+        } else if rng.one_in(4) {
+            vec![rng.pick(STRAYS)]
+        } else {
+            rng.pick(NEARLY).to_vec()
+        });
+    }
     match rng.below(4) {
         0 => pieces.join(&b' '),
         1 => join_tightly(&pieces),
         2 => pieces.concat(),
         _ => join_unevenly(rng, &pieces),
     }
+}
+
+fn is_equality(piece: &[u8]) -> bool {
+    EQUALITIES
+        .iter()
+        .any(|operator| operator.as_bytes() == piece)
 }
 
 /// A blank goes only where two runs would otherwise become one.
@@ -182,7 +193,10 @@ fn derive(rng: &mut Prng, kind: Kind, size: usize, out: &mut Vec<Vec<u8>>) {
             push(out, "(");
             derive(rng, compared, size / 2, out);
             push(out, rng.pick(&COMPARISONS));
-            derive(rng, compared, size / 2, out);
+            match compared == Kind::Text && rng.one_in(4) {
+                true => push(out, bare_words::word(rng)),
+                false => derive(rng, compared, size / 2, out),
+            }
             push(out, ")");
         }
         _ => {
@@ -290,7 +304,7 @@ fn near_the_length(rng: &mut Prng) -> Vec<u8> {
     let mut expr = valid(rng);
     expr.truncate(900);
     let room = len - expr.len();
-    match rng.below(8) {
+    match rng.below(9) {
         0 => [&b" ".repeat(room), &expr[..]].concat(),
         1 => [&expr[..], &b"\t".repeat(room)].concat(),
         2 => [&expr[..], b"#", &b"x".repeat(room - 1)].concat(),
@@ -298,6 +312,7 @@ fn near_the_length(rng: &mut Prng) -> Vec<u8> {
         4 => [b"0x", &b"0".repeat(len - 3)[..], b"7"].concat(),
         5 => [b"a.", &b"b".repeat(len - 2)[..]].concat(),
         6 => [b"$(", &b"M".repeat(len - 3)[..], b")"].concat(),
+        7 => [b"''==", &b"w".repeat(len - 4)[..]].concat(),
         // A symbol as the last byte, which a neighbour could make longer.
         _ => [&b" ".repeat(len - 1)[..], &[rng.pick(SYMBOLS)]].concat(),
     }
@@ -316,6 +331,10 @@ fn near_the_token_count(rng: &mut Prng) -> Vec<u8> {
             _ => b"''".to_vec(),
         })
         .collect();
+    if rng.one_in(3) {
+        pieces[count - 2] = rng.pick(&EQUALITIES).into();
+        pieces[count - 1] = bare_words::word(rng).into();
+    }
     // The last tokens are the interesting ones.
     for _ in 0..rng.below(3) {
         let at = rng.between(count - 3, count - 1);
@@ -398,6 +417,8 @@ fn near_the_longest_name(rng: &mut Prng) -> Vec<u8> {
         (b"", b".x"),
         (b"x.", b""),
         (b"!$", b""),
+        (b"'a' == ", b""),
+        (b"'a' != ", b".1"),
     ]);
     [before, &name, after].concat()
 }
@@ -425,6 +446,14 @@ pub fn corners() -> Vec<Vec<u8>> {
         for last in lasts {
             for tail in [TAILS, BAD_TAILS].concat() {
                 corners.push([&b"+".repeat(count - 1), *last, tail].concat());
+            }
+        }
+    }
+    // A bare word as one of the last tokens.
+    for count in 196..=201 {
+        for word in [&b"a"[..], b"L", b"L'", b"a.1", b"a b"] {
+            for tail in [TAILS, BAD_TAILS].concat() {
+                corners.push([&b"+".repeat(count), &b"=="[..], word, tail].concat());
             }
         }
     }

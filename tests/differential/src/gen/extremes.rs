@@ -1,14 +1,17 @@
 //! Expressions with a derivation at or just past a limit.
 
+use super::bare_words::EQUALITIES;
 use super::formulas::{formula, number, Place, COMPARISONS, NUMERIC};
 use super::numbers::EDGES;
 use super::settings::Names;
 use crate::prng::Prng;
 
 pub fn extreme(rng: &mut Prng, names: &Names, place: Place) -> Vec<u8> {
-    match rng.below(8) {
+    match rng.below(10) {
         0 => long(rng, names, place),
         1 => long_strings(rng),
+        8 => long_words(rng),
+        9 => many_words(rng),
         2 => unary_chain(rng),
         3 => binary_chain(rng, place),
         4 => choices_to_the_right(rng),
@@ -51,6 +54,26 @@ fn long_strings(rng: &mut Prng) -> Vec<u8> {
     let [left, right] = [0, 1].map(|_| rng.pick(&["", "a", "b", "\x01"]));
     let same = "s".repeat(len);
     format!("{wide}'{same}{left}'{operator} {wide}'{same}{right}'").into_bytes()
+}
+
+/// A string and a bare word that differ at their ends.
+fn long_words(rng: &mut Prng) -> Vec<u8> {
+    let len = rng.between(495, 508);
+    let [left, right] = [0, 1].map(|_| rng.pick(&["", "a", "b", "_"]));
+    let same = "s".repeat(len);
+    format!("'{same}{left}'{} {same}{right}", rng.pick(&EQUALITIES)).into_bytes()
+}
+
+/// 191 to 203 tokens, a quarter of them bare words.
+fn many_words(rng: &mut Prng) -> Vec<u8> {
+    let mut expr = String::new();
+    for _ in 0..rng.between(47, 50) {
+        let operator = rng.pick(&EQUALITIES);
+        let joint = rng.pick(&["AND", "OR", "XOR", "&&"]);
+        expr += &format!("'a'{operator} {} {joint} ", rng.pick(&["a", "b", "L"]));
+    }
+    expr += rng.pick(&["1", "'a' == a", "'a' == a b"]);
+    expr.into_bytes()
 }
 
 /// 196 to 202 tokens, of which all but the last are unary operators.

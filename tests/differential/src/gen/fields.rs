@@ -3,6 +3,7 @@
 
 use oracle::Kind as Found;
 
+use super::bare_words;
 use super::formulas::{formula, number, Place};
 use super::numbers::EDGES;
 use super::settings::{Kind, Names};
@@ -11,11 +12,12 @@ use crate::prng::Prng;
 
 /// Mostly a value that some datum takes.
 pub fn expression(rng: &mut Prng, names: &Names) -> Vec<u8> {
-    match rng.below(8) {
+    match rng.below(11) {
         0 | 1 => rng.pick(&EDGES).to_string().into_bytes(),
         2 => number(rng).into_bytes(),
         3 => formula(rng, names, Some(Kind::Text), Place::Alone),
         4 => formula(rng, names, Some(Kind::Wide), Place::Alone),
+        5..=7 => bare_words::any(rng),
         _ => values::any(rng, names, Place::Alone),
     }
 }

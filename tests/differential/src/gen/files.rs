@@ -30,7 +30,7 @@ pub fn any(rng: &mut Prng, names: &Names, table: &[u8]) -> Vec<u8> {
         13 | 14 => near_a_limit(rng, names),
         15..=19 => {
             let file = good(rng, names);
-            spoil(rng, &file, table)
+            spoil(rng, &file, table, names.edition())
         }
         20..=23 => {
             let lines = refused_lines::any(rng, names);

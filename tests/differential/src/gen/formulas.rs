@@ -2,6 +2,7 @@
 //! operators take, small numbers, short strings, and no more parentheses than
 //! the precedence of document 01 needs, except a few.
 
+use super::bare_words;
 use super::expressions::join_well;
 use super::numbers::edge;
 use super::settings::{Kind, Names, KINDS};
@@ -10,6 +11,9 @@ use crate::prng::Prng;
 /// The loosest level, that of `?:`, and the one before it.
 const CHOICE: u8 = 13;
 const BINARY: u8 = 12;
+
+/// The level of `==` and its like.
+const EQUALITY: u8 = 6;
 
 /// Binary operators that take numbers, with their levels. The likelier ones
 /// are here more than once.
@@ -170,7 +174,14 @@ impl Writer<'_> {
         self.at_level(level, loosest, |writer| {
             writer.expression(kind, size / 2, level);
             writer.push(operator);
-            writer.expression(kind, size / 2, level - 1);
+            // Only equality operators have a bare word after them.
+            match kind == Kind::Text && level == EQUALITY {
+                true if writer.names.takes_old_spelling(writer.rng) => {
+                    let word = bare_words::word(writer.rng);
+                    writer.push(word);
+                }
+                _ => writer.expression(kind, size / 2, level - 1),
+            }
         });
     }
 

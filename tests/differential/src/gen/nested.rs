@@ -3,8 +3,8 @@
 
 /// Of wrong kinds, or with kinds of their own.
 #[rustfmt::skip]
-const KINDS: [&str; 8] = [
-    "1", "'a'", "L'a'", "(-'b')", "('b' + 1)", "(1 ? 'b' : 2)", "('b' ? 1 : 2)", "(0 ? 'a' : 'b')",
+const KINDS: [&str; 10] = [
+    "1", "b", "('a' == a)", "'a'", "L'a'", "(-'b')", "('b' + 1)", "(1 ? 'b' : 2)", "('b' ? 1 : 2)", "(0 ? 'a' : 'b')",
 ];
 
 /// Without a value, or with something inside that has none and is skipped.

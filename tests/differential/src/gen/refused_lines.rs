@@ -3,7 +3,7 @@
 
 use oracle::selection::MAX_LINE;
 
-use super::directives::{name, rubbish, BLANKS};
+use super::directives::{broken_name, name, rubbish, BLANKS};
 use super::places;
 use super::settings::Names;
 use crate::prng::Prng;
@@ -38,8 +38,9 @@ const OPENINGS: [(&str, &[&str]); 7] = [
 pub fn any(rng: &mut Prng, names: &Names) -> Vec<Vec<u8>> {
     let (word, before) = rng.pick(&OPENINGS);
     let mut lines: Vec<Vec<u8>> = before.iter().map(|line| line.as_bytes().to_vec()).collect();
-    let (word, text) = match rng.below(12) {
+    let (word, text) = match rng.below(14) {
         0 => (rng.pick(&["ifdef", "ifndef"]), name(rng, names)),
+        12 | 13 => (rng.pick(&["ifdef", "ifndef"]), broken_name(rng, names)),
         1 => (
             rng.pick(&["ifdef", "ifndef", "if", "else", "endif"]),
             rubbish(rng),
@@ -71,10 +72,11 @@ fn lengthen(rng: &mut Prng, line: &mut Vec<u8>, word: usize) {
 /// Texts that are refused as conditions, each number with and without
 /// something before its place; the last ones are refused without a place.
 #[rustfmt::skip]
-const TEXTS: [&str; 30] = [
+const TEXTS: [&str; 35] = [
     "@", "1 == foo", "1.a", "$(A) 'a", "L'a", "18446744073709551616", "0 - 18446744073709551616", "", "1", "1 1", ")", "1 +", "1 + ",
     "(1 ? 2)", "1 ? 2 : ", "g.None", "0 AND g.None", "-'a'", "'a' + (1 ? 'b' : 2)", "-1", "0 OR 5 - 7", "1 / 0", "1 AND 2 % 0",
     "1 || g.None", "1 | 'a'", "0 || 1 / 0", "2", "'a'", "1 + 1", "0",
+    "'a' == a", "'a' EQ a.1", "'a' NE L", "'a' == (a)", "'a' == a b",
 ];
 
 /// Each of them after every word that takes a condition, with all kinds of

@@ -6,8 +6,8 @@ use crate::prng::Prng;
 /// Operands, each with a reason of its own for one of the refusals 3 to 12 (5
 /// and 6 are in `operands`), and a few with none. A table may have `g.P`.
 #[rustfmt::skip]
-const OPERANDS: [&str; 46] = [
-    "@", "foo", "007", "$(a)", "1.a", "g.1", "'a' = 1",
+const OPERANDS: [&str; 51] = [
+    "@", "foo", "L", "L'a", "007", "$(a)", "1.a", "g.1", "'a' = 1",
     "18446744073709551616", "0x10000000000000000",
     "1 1", "* 1", "1 +", "()", "(1 ? 2)", "1 : 2", "1 ! 2", "1)", "((1)",
     "1 | 1", "(1 | 1) || 1",
@@ -15,7 +15,7 @@ const OPERANDS: [&str; 46] = [
     "-'a'", "('a' + 1)", "(1 ? 'a' : 2)", "('a' ? 1 : 2)", "'a' == 1", "-('a' * (-L'a'))",
     "(5 - 7)", "-1", "1 << 64", "((0 AND 1 / 0) - 1)", "(1 ? 5 - 7 : 1 / 0)",
     "(1 / 0)", "1 % 0", "(0 OR 1 / 0)", "(1 / 0 - (5 - 7))", "(0 ? 5 - 7 : 1 / 0)",
-    "1", "0", "'a' == 'a'", "(1 OR 1 / 0)", "(0 AND 5 - 7)", "(1 ? 2 : 1 / 0)",
+    "1", "0", "'a' == 'a'", "'a' == a", "('a' NE b)", "(1 EQ a)", "(1 OR 1 / 0)", "(0 AND 5 - 7)", "(1 ? 2 : 1 / 0)",
 ];
 
 fn operands() -> Vec<String> {
@@ -57,7 +57,7 @@ pub fn any(rng: &mut Prng) -> Vec<u8> {
     let operands = operands();
     let operand = |rng: &mut Prng| {
         // The first ones are so bad that nothing else counts beside them.
-        let from = rng.pick(&[0, 9, 18, 20, 24, 30]);
+        let from = rng.pick(&[0, 11, 20, 22, 26, 32]);
         operands[rng.between(from, operands.len() - 1)].clone()
     };
     let mut text = operand(rng);

@@ -1,6 +1,7 @@
 //! Tables under which expressions are evaluated, and the names in them.
 
 use oracle::table::{NAME, RECORD};
+use oracle::Edition;
 
 use super::names::{NUMBERS, TEXTS, WIDES};
 use super::numbers::edge;
@@ -60,13 +61,15 @@ pub fn known(rng: &mut Prng) -> Vec<u8> {
         .collect()
 }
 
-/// The names of a table, by the kinds of their values.
+/// The names of a table, by the kinds of their values, and the edition in whose
+/// spelling they and other operands are mostly written. Both editions read it.
 pub struct Names {
     by_kind: [Vec<Vec<u8>>; 3],
+    edition: Edition,
 }
 
 impl Names {
-    pub fn of(table: &[u8]) -> Names {
+    pub fn of(table: &[u8], edition: Edition) -> Names {
         let mut by_kind = [const { Vec::new() }; 3];
         let (records, _) = table.as_chunks::<RECORD>();
         for record in records {
@@ -76,7 +79,20 @@ impl Names {
                 names.push(name.unwrap_or_default().to_vec());
             }
         }
-        Names { by_kind }
+        Names { by_kind, edition }
+    }
+
+    pub fn edition(&self) -> Edition {
+        self.edition
+    }
+
+    /// Whether what the old edition alone takes is to be written next: often for
+    /// that one, and now and then for the new one, which refuses it.
+    pub fn takes_old_spelling(&self, rng: &mut Prng) -> bool {
+        rng.one_in(match self.edition {
+            Edition::Old => 2,
+            Edition::New => 60,
+        })
     }
 
     /// A name of this kind, or one that may be missing or of another kind.

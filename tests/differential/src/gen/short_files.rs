@@ -3,13 +3,15 @@
 use super::directives::{NEARLY_WORDS, RUBBISH, WORDS};
 
 /// Lines of every form that affects other lines.
-const LINES: [&str; 14] = [
+const LINES: [&str; 16] = [
     "x",
     "!if 0",
     "!if 1",
     "!if !@",
     "!ifdef A",
     "!ifndef A",
+    "!ifdef $(A)",
+    "!if 'a' == a",
     "!elseif 0 || 1",
     "!elif 0",
     "!elif @",
@@ -120,6 +122,11 @@ fn bytes() -> Vec<Vec<u8>> {
             (b"!ifdef", b"A\n!endif"),
             (b"!ifdef ", b"\n!endif"),
             (b"!ifdef A", b"\n!endif"),
+            (b"!ifdef $(A", b")\n!endif"),
+            (b"!ifdef $(", b"A)\n!endif"),
+            (b"!if 'a' ==", b"a\n!endif"),
+            (b"!if 'a' == ", b"\n!endif"),
+            (b"!if 'a' == a", b"\n!endif"),
             (b"!ifndef $", b"A)\n!endif"),
             (b"!ifndef $(A", b"\n!endif"),
             (b"!ifndef $(A)", b"\n!endif"),

@@ -7,11 +7,13 @@ use oracle::lines::{lines, sort, Line, Word};
 use oracle::selection::{mark, MAX_FILE, MAX_LINE, MAX_LINES};
 use oracle::table::{MAX_RECORDS, RECORD};
 use oracle::tokens::code;
+use oracle::Edition;
 
 use super::directives::{plain, rubbish, BLANKS};
 use super::tables::name_in;
 use super::{settings, tables};
 use crate::prng::Prng;
+use crate::read;
 
 /// What of a file may change.
 #[derive(Clone, Copy)]
@@ -22,17 +24,17 @@ struct Free {
 }
 
 /// The marks of a file that the oracle accepts.
-pub fn marks(file: &[u8], table: &[u8]) -> Option<Vec<u8>> {
+pub fn marks(file: &[u8], table: &[u8], edition: Edition) -> Option<Vec<u8>> {
     let mut marks = vec![0; MAX_LINES];
-    let (count, _) = oracle::select(file, table, &mut marks).ok()?;
+    let (count, _) = oracle::select(file, table, edition, &mut marks).ok()?;
     marks.truncate(count);
     Some(marks)
 }
 
 /// The file with other text after directives that are not read, if it is
 /// accepted under the table.
-pub fn spoil(rng: &mut Prng, file: &[u8], table: &[u8]) -> Vec<u8> {
-    let Some(marks) = marks(file, table) else {
+pub fn spoil(rng: &mut Prng, file: &[u8], table: &[u8], edition: Edition) -> Vec<u8> {
+    let Some(marks) = marks(file, table, edition) else {
         return file.to_vec();
     };
     let free = Free {
@@ -119,17 +121,11 @@ fn unread(rng: &mut Prng, word: Word) -> Vec<u8> {
 }
 
 /// The names that the read directives of a file depend on.
-pub fn named(file: &[u8], marks: &[u8]) -> BTreeSet<Vec<u8>> {
+pub fn named(file: &[u8], marks: &[u8], edition: Edition) -> BTreeSet<Vec<u8>> {
     let mut names = BTreeSet::new();
-    for (line, &mark) in lines(file).zip(marks) {
-        if !matches!(mark, mark::TAKEN | mark::NOT_TAKEN) {
-            continue;
-        }
-        let Ok(Line::Directive { word, argument }) = sort(line) else {
-            continue;
-        };
+    for (word, argument) in read::branches(file, marks) {
         match word {
-            Word::If | Word::Elseif => names.extend(in_expression(argument)),
+            Word::If | Word::Elseif => names.extend(in_expression(argument, edition)),
             Word::Ifdef | Word::Ifndef => {
                 let text = oracle::bytes::skip_blanks(argument);
                 let text = text.strip_prefix(b"$(").unwrap_or(text);
@@ -142,8 +138,8 @@ pub fn named(file: &[u8], marks: &[u8]) -> BTreeSet<Vec<u8>> {
 }
 
 /// The macros and PCDs among the tokens.
-fn in_expression(argument: &[u8]) -> Vec<Vec<u8>> {
-    let tokens = oracle::scan(argument).tokens;
+fn in_expression(argument: &[u8], edition: Edition) -> Vec<Vec<u8>> {
+    let tokens = oracle::scan(argument, edition).tokens;
     tokens
         .iter()
         .filter_map(|token| {

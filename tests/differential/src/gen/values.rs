@@ -1,5 +1,6 @@
 //! Expressions to be evaluated under a table.
 
+use super::bare_words;
 use super::expressions::{self, damage};
 use super::extremes::extreme;
 use super::formulas::{formula, Place, COMPARISONS, NUMERIC};
@@ -10,8 +11,9 @@ use crate::prng::Prng;
 
 /// Any expression; most have a value.
 pub fn any(rng: &mut Prng, names: &Names, place: Place) -> Vec<u8> {
-    match rng.below(16) {
+    match rng.below(18) {
         0 | 1 => expressions::any(rng),
+        16 | 17 => bare_words::any(rng),
         2 => {
             let mut expr = formula(rng, names, None, place);
             damage(rng, &mut expr);
@@ -23,11 +25,11 @@ pub fn any(rng: &mut Prng, names: &Names, place: Place) -> Vec<u8> {
     }
 }
 
-/// One token of every class that the grammar distinguishes, and `||` beside
-/// `OR`, since only the one is a bar.
+/// One token of every class that the grammar distinguishes, `||` beside `OR`,
+/// since only the one is a bar, and a bare word.
 #[rustfmt::skip]
-const SORTS: [&str; 20] = [
-    "0", "1", "'a'", "L'a'", "-", "!", "*", "<<", "<", "==", "&", "|", "AND", "XOR", "OR", "||", "?", ":",
+const SORTS: [&str; 21] = [
+    "0", "1", "'a'", "a", "L'a'", "-", "!", "*", "<<", "<", "==", "&", "|", "AND", "XOR", "OR", "||", "?", ":",
     "(", ")",
 ];
 

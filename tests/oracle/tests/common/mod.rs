@@ -1,8 +1,48 @@
 //! Small things that the tests share.
 #![allow(dead_code)]
 
+use std::fmt::Debug;
+
+use oracle::selection::Selection;
 use oracle::tokens::{code, Token};
-use oracle::{evaluate, select, Refusal, Value};
+use oracle::{Answer, Edition, Refusal, Scan, Value, EDITIONS};
+
+// Most answers are the same in both editions. These calls make sure of it; a
+// test of an answer that is not names its edition.
+
+fn agreed<T: Debug + PartialEq>(input: &[u8], answer: impl Fn(Edition) -> T) -> T {
+    let [new, old] = EDITIONS.map(answer);
+    assert_eq!(new, old, "new, old: {}", input.escape_ascii());
+    new
+}
+
+pub fn scan(expr: &[u8]) -> Scan {
+    agreed(expr, |edition| oracle::scan(expr, edition))
+}
+
+pub fn evaluate<'a>(expr: &'a [u8], table: &'a [u8]) -> Answer<'a> {
+    agreed(expr, |edition| oracle::evaluate(expr, table, edition))
+}
+
+pub fn field(expr: &[u8], table: &[u8], datum: u8, buf: &mut [u8]) -> Result<usize, Refusal> {
+    let (result, written) = agreed(expr, |edition| {
+        let mut buf = buf.to_vec();
+        let result = oracle::field(expr, table, datum, edition, &mut buf);
+        (result, buf)
+    });
+    buf.copy_from_slice(&written);
+    result
+}
+
+pub fn select(file: &[u8], table: &[u8], marks: &mut [u8]) -> Selection {
+    let (result, marked) = agreed(file, |edition| {
+        let mut marks = marks.to_vec();
+        let result = oracle::select(file, table, edition, &mut marks);
+        (result, marks)
+    });
+    marks.copy_from_slice(&marked);
+    result
+}
 
 /// A record with its fields at the places document 01 gives them.
 pub fn record(name: &[u8], kind: u8, content: &[u8]) -> [u8; 128] {
@@ -64,11 +104,17 @@ pub fn marks_in(file: &[u8], table: &[u8]) -> Result<(Vec<u8>, u64), (u8, usize)
     selected(file, table).map_err(|(refusal, line)| (refusal.number, line))
 }
 
-/// Marks and count of a file, or refusal and line. Checks on the way that the
-/// marks are treated as they must be.
-pub fn selected(file: &[u8], table: &[u8]) -> Result<(Vec<u8>, u64), (Refusal, usize)> {
+/// Marks and count of a file, or refusal and line.
+pub type Selected = Result<(Vec<u8>, u64), (Refusal, usize)>;
+
+pub fn selected(file: &[u8], table: &[u8]) -> Selected {
+    agreed(file, |edition| selected_in(edition, file, table))
+}
+
+/// In one edition. Checks on the way that the marks are treated as they must be.
+pub fn selected_in(edition: Edition, file: &[u8], table: &[u8]) -> Selected {
     let mut marks = vec![77; 4_096 + 3];
-    match select(file, table, &mut marks) {
+    match oracle::select(file, table, edition, &mut marks) {
         Ok((lines, count)) => {
             assert!(marks[lines..].iter().all(|&mark| mark == 77));
             marks.truncate(lines);

@@ -1,6 +1,5 @@
--- The first byte decides.
+-- The edition and the first byte decide.
 use mathlib.Core.Path.{_∙_}
-use borrow.Author.Tests.{eq-eqb, ne-eqb}
 use Rattle.condition.specs.Conditions.{nameAt}
 use borrow.Author.Needs.{needs}
 use Rattle.condition.proofs.macros.name_at.Statement.{statement}
@@ -17,11 +16,11 @@ plain-name-requires c κs = search needs
 
 returns : tie.Need-returns
 unfolding nameAt
-returns c = c .used-name .ensures ∙ rw (← c .before .before .byte-at .ensures, eq-eqb _ _ (c .before .if1 .taken))
+returns c = c .used-name .ensures ∙ rw (← c .before .before .before .byte-at .ensures, c .before .if1 .taken)
 
 returns-2 : tie.Need-returns-2
 unfolding nameAt
-returns-2 c = c .plain-name .ensures ∙ rw (← c .before .before .byte-at .ensures, ne-eqb _ _ (c .before .if1 .left))
+returns-2 c = c .plain-name .ensures ∙ rw (← c .before .before .before .byte-at .ensures, c .before .if1 .left)
 
 pub name-at-spec : {M : Type 1} → statement M
 name-at-spec =

@@ -58,17 +58,22 @@ part-spelled-word-end c =
 spelled-word-requires : tie.Need-spelled-word-requires
 spelled-word-requires c κs = search needs
 
+or-bare-requires : tie.Need-or-bare-requires
+or-bare-requires c κs = search needs
+
 returns-3 : tie.Need-returns-3
 unfolding wordOf
 returns-3 c =
-    let at-is-wide = c .before .before .before in
+    let at-spelled = c .before .before in
+    let at-if2 = at-spelled .before .before in
+    let at-is-wide = at-if2 .before in
     let at-run-end = at-is-wide .before in
     let at-if1 = at-run-end .before in
     let at-pcd-name = at-if1 .before in
     let start = at-pcd-name .before .before in
     let e : span Word (start .args .s .now) ≡ at-run-end .run-end .result .0 = sym (at-run-end .run-end .ensures ∙ zero-add _) in
-    rw (e, ← at-pcd-name .pcd-name .ensures, le-ltb _ _ (at-if1 .if1 .left), ← at-is-wide .is-wide .ensures, c .before .before .if2 .left)
-    (c .spelled-word .ensures ∙ rw sub-zero)
+    rw (e, ← at-pcd-name .pcd-name .ensures, le-ltb _ _ (at-if1 .if1 .left), ← at-is-wide .is-wide .ensures, at-if2 .if2 .left)
+    (c .or-bare .ensures ∙ rw (at-spelled .spelled-word .ensures, sub-zero))
 
 pub word-spec : {M : Type 1} → statement M
 word-spec =
@@ -85,4 +90,5 @@ word-spec =
     part-spelled-word-start
     part-spelled-word-end
     spelled-word-requires
+    or-bare-requires
     returns-3)

@@ -4,6 +4,9 @@ use borrow.Author.Needs.{needs}
 use Rattle.marshal.proofs.expressions.answer.Statement.{statement}
 use Rattle.marshal.proofs.expressions.answer.Tie as tie
 
+dialect-of-requires : tie.Need-dialect-of-requires
+dialect-of-requires c κs = search needs
+
 evaluate-requires : tie.Need-evaluate-requires
 evaluate-requires c κs = search needs
 
@@ -22,23 +25,24 @@ show-value-requires c κs = search needs
 returns : tie.Need-returns
 returns c =
     let r = c .before .before .before .before .r in
-    let evaluate = c .before .before .before .before .before .before .evaluate in
-    let a = rw (r .given .1) at (evaluate .ensures) in
+    let at-evaluate = c .before .before .before .before .before .before in
+    let a = rw (r .given .1, at-evaluate .before .dialect-of .ensures) at (at-evaluate .evaluate .ensures) in
     record { refused-with = rw (← a); written = rw (← a) (c .show-number .ensures) }
 
 returns-2 : tie.Need-returns-2
 returns-2 c =
     let v = c .before .before .before .v in
-    let evaluate = c .before .before .before .before .before .evaluate in
-    let s = c .before .before .before .before .before .before .before .before in
+    let at-evaluate = c .before .before .before .before .before in
+    let s = at-evaluate .before .before .before .before in
     let m = over (s .args .expr .now) (s .args .table .now) in
-    let a = rw (v .given .1) at (evaluate .ensures) in
+    let a = rw (v .given .1, at-evaluate .before .dialect-of .ensures) at (at-evaluate .evaluate .ensures) in
     record { refused-with = rw (← a); written = rw (← a) (c .show-value .ensures m) }
 
 pub answer-spec : {M : Type 1} → statement M
 answer-spec =
     tie.close
     (tie.spec
+    dialect-of-requires
     evaluate-requires
     enum-known-r
     show-number-requires

@@ -4,6 +4,9 @@ use borrow.Author.Needs.{needs}
 use Rattle.marshal.proofs.fields.fill.Statement.{statement}
 use Rattle.marshal.proofs.fields.fill.Tie as tie
 
+dialect-of-requires : tie.Need-dialect-of-requires
+dialect-of-requires c κs = search needs
+
 field-requires : tie.Need-field-requires
 field-requires c κs = search needs
 
@@ -25,8 +28,8 @@ same-length c = search needs
 returns : tie.Need-returns
 returns c =
     let n = c .before .before .before .n in
-    let field = c .before .before .before .before .before .before .before .field in
-    let w = field .ensures in
+    let at-field = c .before .before .before .before .before .before .before in
+    let w = rw (at-field .before .dialect-of .ensures) at (at-field .field .ensures) in
     let a = sym (w .answer) ∙ n .given .1 in
     record { refused-with = rw a; shown = rw a (c .show .ensures); buffer-is = w .buffer }
 
@@ -36,8 +39,8 @@ same-length-2 c = search needs
 returns-2 : tie.Need-returns-2
 returns-2 c =
     let r = c .before .before .before .before .r in
-    let field = c .before .before .before .before .before .before .before .before .field in
-    let w = field .ensures in
+    let at-field = c .before .before .before .before .before .before .before .before in
+    let w = rw (at-field .before .dialect-of .ensures) at (at-field .field .ensures) in
     let a = sym (w .answer) ∙ r .given .1 in
     record { refused-with = rw a; shown = rw a (c .show2 .ensures); buffer-is = w .buffer }
 
@@ -45,6 +48,7 @@ pub fill-spec : {M : Type 1} → statement M
 fill-spec =
     tie.close
     (tie.spec
+    dialect-of-requires
     field-requires
     enum-known-n
     show-requires

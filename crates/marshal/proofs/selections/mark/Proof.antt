@@ -4,6 +4,9 @@ use borrow.Author.Needs.{needs}
 use Rattle.marshal.proofs.selections.mark.Statement.{statement}
 use Rattle.marshal.proofs.selections.mark.Tie as tie
 
+dialect-of-requires : tie.Need-dialect-of-requires
+dialect-of-requires c κs = search needs
+
 select-requires : tie.Need-select-requires
 select-requires c κs = search needs
 
@@ -25,8 +28,8 @@ same-length c = search needs
 returns : tie.Need-returns
 returns c =
     let lines = c .before .before .before .lines in
-    let select = c .before .before .before .before .before .before .before .select in
-    let w = select .ensures in
+    let at-select = c .before .before .before .before .before .before .before in
+    let w = rw (at-select .before .dialect-of .ensures) at (at-select .select .ensures) in
     let a = sym (lines .given .1) ∙ w .answer in
     record { refused-with = rw (← a); shown = rw (← a) (c .show .ensures); marks-are = w .marks-are }
 
@@ -36,8 +39,8 @@ same-length-2 c = search needs
 returns-2 : tie.Need-returns-2
 returns-2 c =
     let r = c .before .before .before .before .before .r in
-    let select = c .before .before .before .before .before .before .before .before .before .select in
-    let w = select .ensures in
+    let at-select = c .before .before .before .before .before .before .before .before .before in
+    let w = rw (at-select .before .dialect-of .ensures) at (at-select .select .ensures) in
     let a = sym (r .given .1) ∙ w .answer in
     record { refused-with = rw (← a); shown = rw (← a) (c .show2 .ensures); marks-are = w .marks-are }
 
@@ -45,6 +48,7 @@ pub mark-spec : {M : Type 1} → statement M
 mark-spec =
     tie.close
     (tie.spec
+    dialect-of-requires
     select-requires
     enum-known-lines
     show-requires

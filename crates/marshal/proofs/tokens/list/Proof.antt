@@ -2,14 +2,16 @@
 use native.Mathlib.Omega.{arith}
 use borrow.Author.Needs.{needs}
 use Rattle.token.proofs.Reading.{most-tokens}
-use Rattle.units.specs.Dialects.{STRICT}
 use Rattle.marshal.proofs.tokens.list.Statement.{statement}
 use Rattle.marshal.proofs.tokens.list.Tie as tie
 
+dialect-of-requires : tie.Need-dialect-of-requires
+dialect-of-requires c κs = search needs
+
 tokens-requires : tie.Need-tokens-requires
 tokens-requires c κs =
-    let start = c .before .before .before .before .before .args in
-    let most = most-tokens (start .expr .now) STRICT in
+    let start = c .before .before .before .before .before .before .args in
+    let most = most-tokens (start .expr .now) (c .dialect-of .result) in
     record { codes-hold = omega (arith, most); starts-hold = omega (arith, most); lens-hold = omega (arith, most); values-hold = omega (arith, most) }
 
 number-of-requires : tie.Need-number-of-requires
@@ -27,7 +29,8 @@ store-requires c κs = search needs
 returns : tie.Need-returns
 returns c =
     let offset = c .before .before in
-    let scan = offset .before .before .before .tokens .ensures in
+    let at-tokens = offset .before .before .before in
+    let scan = rw (at-tokens .before .dialect-of .ensures) at (at-tokens .tokens .ensures) in
     record {
       head = rw (← scan .ending, ← offset .before .number-of .ensures, ← offset .offset-of .ensures, ← scan .count) (c .store .ensures);
       tokens = scan .tokens;
@@ -37,6 +40,7 @@ pub list-spec : {M : Type 1} → statement M
 list-spec =
     tie.close
     (tie.spec
+    dialect-of-requires
     tokens-requires
     number-of-requires
     cast-number

@@ -9,11 +9,11 @@ use Rattle.syntax.proofs.tokens.is_primary.Tie as tie
 
 returns : tie.Need-returns
 unfolding isPrimary
-returns c = same-over isPrimary true 0 6 refl (c .before .args .c) (omega arith) (omega arith)
+returns c = same-over isPrimary true 0 7 refl (c .before .args .c) (omega arith) (omega arith)
 
 returns-2 : tie.Need-returns-2
 unfolding isPrimary
-returns-2 c = same-over isPrimary false 6 250 refl (c .before .args .c) (omega arith) (omega arith)
+returns-2 c = same-over isPrimary false 7 249 refl (c .before .args .c) (omega arith) (omega arith)
 
 pub is-primary-spec : {M : Type 1} → statement M
 is-primary-spec = tie.close (tie.spec returns returns-2)

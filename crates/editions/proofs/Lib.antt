@@ -1,0 +1,10 @@
+pub mod Codes
+pub mod SameTokens
+pub mod BareWords
+pub mod Placed
+pub mod SameReading
+pub mod SameAnswers
+pub mod SameConditions
+pub mod SameSelections
+pub mod Names
+pub mod UsedNames

@@ -1,0 +1,2 @@
+pub mod BareWords
+pub mod UsedNames
