@@ -120,6 +120,8 @@ uses =
     ∷ reads Ifdef " $A" (Refused (unplaced TEXT-MALFORMED))
     ∷ reads Ifdef " $()" (Refused (unplaced TEXT-MALFORMED))
     ∷ reads Ifdef " $( A)" (Refused (unplaced TEXT-MALFORMED))
+    ∷ reads Ifdef " $(A) B" (Refused (unplaced TEXT-MALFORMED))
+    ∷ reads Ifdef "$(A)" (Refused (unplaced TEXT-MALFORMED))
     ∷ []
 
 -- in the old edition; in the new one all of them are malformed

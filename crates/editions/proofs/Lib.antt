@@ -1,3 +1,4 @@
+pub mod Equalities
 pub mod Codes
 pub mod SameTokens
 pub mod BareWords
@@ -8,3 +9,4 @@ pub mod SameConditions
 pub mod SameSelections
 pub mod Names
 pub mod UsedNames
+pub mod Read

@@ -19,7 +19,7 @@ use Rattle.text.specs.Names.{macroName}
 use Rattle.text.specs.declared.runs.Set.the-variants.{Blanks}
 use Rattle.text.proofs.Laws.{inside}
 use Rattle.line.specs.declared.Directive.{Directive}
-use Rattle.line.specs.declared.Directive.the-variants.{Ifdef, Ifndef}
+use Rattle.line.specs.declared.Directive.the-variants.{Ifdef, Ifndef, Else, Endif}
 use Rattle.line.specs.declared.Condition.{Condition}
 use Rattle.line.specs.declared.Condition.the-variants.{Refused}
 use Rattle.lookup.specs.Setting.{settingUnder}
@@ -161,18 +161,30 @@ module _ (t : List ℕ) (δ : Dialect) where
       by true false l i p q x y = inl (rw (e, p, q))
       by false c l i p q x y = inl (rw (e, p))
 
-  macro-or : (wanted : Bool) (s : List ℕ) → getD (pastBlanks s) 0 0 ≡ byte "$" → UsesOr (ofMacro t wanted s (inOld δ)) (pastBlanks s)
+  -- the same after a word, where a blank has to come first
+  abbrev SpacedUseOr : Condition → List ℕ → Type 0
+  SpacedUseOr c s = (c ≡ malformed) ⊎ ((spaced s ≡ true) × (w : List ℕ) × (r : List ℕ) × Uses (pastBlanks s) w r)
+
+  macro-or : (wanted : Bool) (s : List ℕ) → getD (pastBlanks s) 0 0 ≡ byte "$" → SpacedUseOr (ofMacro t wanted s (inOld δ)) s
   unfolding ofMacro
   macro-or wanted s e = by (spaced s) refl (named-or wanted (pastBlanks s) e)
     where
       by : (b : Bool) → spaced s ≡ b → UsesOr (ofNamed t wanted (pastBlanks s) (nameAt (pastBlanks s) (inOld δ))) (pastBlanks s)
-          → UsesOr (ofMacro t wanted s (inOld δ)) (pastBlanks s)
-      by true q u = rw q u
+          → SpacedUseOr (ofMacro t wanted s (inOld δ)) s
+      by true q (inl x) = inl (rw q x)
+      by true q (inr u) = inr (q, u .0, u .1, u .2)
       by false q u = inl (rw q)
 
   -- THE FOURTH THEOREM
   pub uses-or-malformed : (d : Directive) → OfMacro d → (s : List ℕ) → getD (pastBlanks s) 0 0 ≡ byte "$"
-      → (evaluate t d s (inOld δ) ≡ malformed) ⊎ ((w : List ℕ) × (r : List ℕ) × Uses (pastBlanks s) w r)
+      → (evaluate t d s (inOld δ) ≡ malformed) ⊎ ((spaced s ≡ true) × (w : List ℕ) × (r : List ℕ) × Uses (pastBlanks s) w r)
   unfolding evaluate
   uses-or-malformed d (inl q) s e = rw q (macro-or true s e)
   uses-or-malformed d (inr q) s e = rw q (macro-or false s e)
+
+-- THE FIFTH THEOREM: `!else` and `!endif` do not know of editions
+pub same-without-argument : (t : List ℕ) (δ : Dialect) (d : Directive) → (d ≡ Else) ⊎ (d ≡ Endif) → (s : List ℕ)
+    → evaluate t d s (inOld δ) ≡ evaluate t d s (inNew δ)
+unfolding evaluate
+same-without-argument t δ d (inl q) s = rw q refl
+same-without-argument t δ d (inr q) s = rw q refl

@@ -1,4 +1,4 @@
--- What a bare word is (document 02, order 5), in the order's own terms and not by how it is found.
+-- What a bare word is (document 02, order 5), in the order's terms; what document 01 refuses is what `lexeme` refuses in the new edition.
 use Prim.Native.Nat.{ℕ}
 use mathlib.Core.Path.{_≡_}
 use mathlib.Core.Bool.{Bool, true, false}
@@ -16,9 +16,9 @@ use Rattle.codes.specs.declared.Scanned.the-variants.{Refused}
 use Rattle.lexeme.specs.Lexeme.{isWide, lexeme}
 use Rattle.token.specs.Tokens.{Token}
 
--- A bare word of n bytes is at the front of a text s: a whole run of letters, digits and `_` with no digit first, as the next token after an
--- equality operator, which the new edition, by itself, refuses with 3. An `L` with a quote after it begins a wide string, and if that has no end,
--- the string is what is refused and not the run.
+-- A bare word of n bytes is at the front of a text s: a whole run of letters, digits and `_`, no digit first, that the new edition, by itself,
+-- refuses with 3, as the next token after an equality operator. An `L` with a quote after it begins a wide string, and if that has no end, the
+-- string is what is refused and not the run.
 pub record BareWord (after : Bool) (s : List ℕ) (n : ℕ) (δ : Dialect) : Type 0 where
   pub after-equality : after ≡ true
   pub no-digit-first : initial (getD s 0 0) ≡ true

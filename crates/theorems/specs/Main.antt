@@ -8,7 +8,8 @@ use mathlib.Core.Logic.{_↔_, _⊎_}
 use mathlib.Core.Bool.{Bool, true, false}
 use mathlib.Core.List.{List, [], _∷_, _++_, List·Memᴰ, Sublistᴰ}
 use lib.ListN.{length, getD, take, drop}
-use Rattle.units.specs.Refusals.{TABLE-MALFORMED, TOKEN-BAD, NO-DERIVATION, BAR-OUTSIDE, PCD-MISSING, KINDS-UNSUITED, TEXT-MALFORMED, faultAt, unplaced, placed}
+use Rattle.units.specs.Refusals.{TABLE-MALFORMED, TOKEN-BAD, NO-DERIVATION, BAR-OUTSIDE, PCD-MISSING, KINDS-UNSUITED, TEXT-MALFORMED}
+use Rattle.units.specs.Refusals.{refusalAt, faultAt, unplaced, placed}
 use Rattle.units.specs.Leftmost.{there}
 use Rattle.units.specs.Dialects.{byItself, inDirectives, inNew, inOld}
 use Rattle.units.specs.declared.Refusal.{Refusal}
@@ -30,7 +31,8 @@ use Rattle.halving.proofs.FullTable.{full-table}
 use Rattle.lookup.specs.Setting.{recordUnder}
 use Rattle.lookup.specs.declared.TextKind.the-variants.{String}
 use Rattle.lookup.proofs.Halved.{halved-record}
-use Rattle.codes.specs.Codes.{BARE, OPEN}
+use Rattle.codes.specs.Codes.{BARE, OPEN, EQUAL, NOT-EQUAL}
+use Rattle.codes.specs.Levels.{isEquality}
 use Rattle.codes.specs.Spellings.{found}
 use Rattle.lexeme.specs.Lexeme.{lexeme}
 use Rattle.token.specs.Tokens.{MAX-TOKENS, Token, firstPlace, endingNumber, readFrom, tooDeep, codesOf, reading}
@@ -72,7 +74,7 @@ use Rattle.answers.proofs.LineZero.{without-line}
 use Rattle.answers.proofs.Bars.{same-reading, bars-only, eight-at, eight-without}
 use Rattle.line.specs.Lines.{lines}
 use Rattle.line.specs.declared.Directive.{Directive}
-use Rattle.line.specs.declared.Directive.the-variants.{If, Ifdef, Ifndef, Elseif}
+use Rattle.line.specs.declared.Directive.the-variants.{If, Ifdef, Ifndef, Elseif, Else, Endif}
 use Rattle.line.specs.declared.Condition.the-variants.{Refused as RefusedCondition}
 use Rattle.condition.specs.Conditions.{spaced, idle, ofAnswer, evaluate}
 use Rattle.select.specs.Select.{accepted, refused, run, start, selection, answerOf, refusalNumber as selectionNumber, Selects}
@@ -103,10 +105,12 @@ use Rattle.field.proofs.Unplaced.{field-unplaced}
 use Rattle.datum.specs.declared.Written.the-variants.{Length, Refused as RefusedField}
 use Rattle.editions.specs.BareWords.{BareWord, FollowEqualities}
 use Rattle.editions.specs.UsedNames.{pastBlanks, SomeBlanks, Name, used, Uses}
+use Rattle.editions.proofs.Equalities.{equality-exactly}
 use Rattle.editions.proofs.SameTokens.{new-alone, only-bare-words}
 use Rattle.editions.proofs.BareWords.{bare-exactly, own-bytes}
+use Rattle.editions.proofs.Read.{read-where-due}
 use Rattle.editions.proofs.Placed.{follow-equalities, none-in-new}
-use Rattle.editions.proofs.UsedNames.{no-dollar-in-new, same-without-dollar, used-is-plain, uses-or-malformed}
+use Rattle.editions.proofs.UsedNames.{no-dollar-in-new, same-without-dollar, used-is-plain, uses-or-malformed, same-without-argument}
 use Rattle.editions.proofs.SameReading.{same-reading as old-reading}
 use Rattle.editions.proofs.SameAnswers.{same-answer, same-value, same-field, same-written}
 use Rattle.editions.proofs.SameSelections.{same-selection, same-accepted}
@@ -398,8 +402,8 @@ field-refuses-expression = refused-field
 
 -- EDITIONS (document 02, order 5). `inNew δ` and `inOld δ` are the rules of δ in the new and in the old edition.
 
--- At the front of a text, in the old edition, a token is a bare word exactly where the order says so: the whole run, no digit first, as the next
--- token after an equality operator, which the new edition refuses with 3, and where no wide string begins. Every other token, and every other
+-- At the front of a text, in the old edition, a token is a bare word exactly where the order says so: a whole run, no digit first, that the new
+-- edition refuses with 3, as the next token after an equality operator, and where no wide string begins. Every other token, and every other
 -- refusal of a token, is that of the new edition. In the new edition no token depends on the one before it.
 pub bare-word-exactly : (after : Bool) (s : List ℕ) (n : ℕ) (δ : Dialect) → (lexeme after s (inOld δ) ≡ found BARE n 0) ↔ BareWord after s n δ
 bare-word-exactly = bare-exactly
@@ -411,10 +415,19 @@ only-bare-words-differ = only-bare-words
 pub new-tokens-by-themselves : (after : Bool) (s : List ℕ) (δ : Dialect) → lexeme after s (inNew δ) ≡ lexeme false s (inNew δ)
 new-tokens-by-themselves = new-alone
 
--- Among the tokens of an expression each bare word is the next one after an equality operator, and in the new edition there is none. The value of
--- a bare word is a string of its own bytes.
+-- The equality operators are those of two codes. Among the tokens of an expression each bare word is the next one after such an operator, and
+-- in the new edition there is none. The value of a bare word is a string of its own bytes.
+pub equality-operators : (c : ℕ) → (isEquality c ≡ true) ↔ ((c ≡ EQUAL) ⊎ (c ≡ NOT-EQUAL))
+equality-operators = equality-exactly
+
 pub bare-words-follow-equalities : (δ : Dialect) (e : List ℕ) → FollowEqualities false (reading e δ .tokens)
 bare-words-follow-equalities = follow-equalities
+
+-- And where one may be, it is read: if a reading of the old edition ends in 3 right after an equality operator, no bare word is there.
+pub bare-words-are-read : (e : List ℕ) (δ : Dialect) (us : List Token) (k : Token) (o n : ℕ)
+    → reading e (inOld δ) ≡ record { tokens = us ++ (k ∷ []); ending = Refused (refusalAt TOKEN-BAD o) } → isEquality (k .code) ≡ true
+    → BareWord true (drop o e) n δ → ⊥
+bare-words-are-read = read-where-due
 
 pub no-bare-word-in-new : (δ : Dialect) (e : List ℕ) (k : Token) → List·Memᴰ k (reading e (inNew δ) .tokens) → k .code ≡ BARE → ⊥
 no-bare-word-in-new = none-in-new
@@ -424,7 +437,8 @@ pub bare-word-is-its-bytes : (m : Memory) (k : Token) → k .code ≡ BARE
 bare-word-is-its-bytes = own-bytes
 
 -- After the blanks that follow `!ifdef` and `!ifndef` the editions differ only in what starts with `$`: the new one refuses it with 22. To the old
--- one `$(NAME)`, with nothing but blanks and a comment after it, is what NAME is to the new one, and it refuses anything else that starts so with 22.
+-- one `$(NAME)`, with nothing but blanks and a comment after it, is what NAME is to the new one. It refuses anything else that starts so, and
+-- `$(NAME)` without a blank before it, with 22. After `!else` and `!endif` the editions do not differ.
 pub same-without-dollar-after-ifdef : (t : List ℕ) (δ : Dialect) (d : Directive) → (d ≡ Ifdef) ⊎ (d ≡ Ifndef) → (s : List ℕ)
     → (getD (pastBlanks s) 0 0 ≡ byte "$" → ⊥) → evaluate t d s (inOld δ) ≡ evaluate t d s (inNew δ)
 same-without-dollar-after-ifdef = same-without-dollar
@@ -439,8 +453,13 @@ used-name-is-its-name = used-is-plain
 
 pub only-used-names-in-old : (t : List ℕ) (δ : Dialect) (d : Directive) → (d ≡ Ifdef) ⊎ (d ≡ Ifndef) → (s : List ℕ)
     → getD (pastBlanks s) 0 0 ≡ byte "$"
-    → (evaluate t d s (inOld δ) ≡ RefusedCondition (unplaced TEXT-MALFORMED)) ⊎ ((w : List ℕ) × (r : List ℕ) × Uses (pastBlanks s) w r)
+    → (evaluate t d s (inOld δ) ≡ RefusedCondition (unplaced TEXT-MALFORMED))
+    ⊎ ((spaced s ≡ true) × (w : List ℕ) × (r : List ℕ) × Uses (pastBlanks s) w r)
 only-used-names-in-old = uses-or-malformed
+
+pub same-after-else-and-endif : (t : List ℕ) (δ : Dialect) (d : Directive) → (d ≡ Else) ⊎ (d ≡ Endif) → (s : List ℕ)
+    → evaluate t d s (inOld δ) ≡ evaluate t d s (inNew δ)
+same-after-else-and-endif = same-without-argument
 
 -- Where the new edition's reading of an expression does not end in 3, the old one's is the same: tokens, ending and place.
 pub old-reads-alike : (e : List ℕ) (δ : Dialect) → (endingNumber (reading e (inNew δ) .ending) ≡ TOKEN-BAD → ⊥)
