@@ -3,9 +3,9 @@
     python3 examples/components.py -D BOARD=SPAR -D WEEK=3 examples/window-right.dsc
 
 -D is that of `build`: NAME=VALUE, or NAME alone for 1. VALUE is an expression, as 3, TRUE, "a string" or L"a wide one", or a word without
-quotes, which is a string. `!include` is not followed, `!error` stops nothing, a macro that is not set is
-0 without a word (`korzhinay select` gives notes), and macros in paths stay as they are. Exit status: 0 with the paths,
-1 if the file is refused, 2 for wrong usage, a wrong setting or a file that cannot be read."""
+quotes, which is a string. A DEFINE line of the file wins over it, other than in `build`. `!include` is not followed, `!error` stops
+nothing, a macro that is not set is 0 without a word (`korzhinay select` gives notes), and macros in paths stay as they are. Exit status: 0
+with the paths, 1 if the file is refused, 2 for wrong usage, a wrong setting or a file that cannot be read."""
 import argparse
 import os
 import sys

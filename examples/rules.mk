@@ -5,6 +5,8 @@
 # reads Buoy.dsc with settings/spar.settings and settings/drifter.settings, and writes build/spar.dsc and build/drifter.dsc. A Makefile that
 # includes this file sets DESCRIPTION and BOARDS before.
 #
+# A DEFINE line of the description wins over the settings of every board; between `!ifndef NAME` and `!endif` it is a default.
+#
 # A run that fails leaves no output. The old one is removed first, and `-o` writes a file whole or not at all; with `>` a refusal would leave
 # an empty file, which the next make would take for made.
 

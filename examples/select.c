@@ -36,7 +36,7 @@ int main(int argc, char **argv)
 
     size_t line = 0;
     for (size_t i = 0; i < length; i++) {
-        if (marks[line] == KORZHINAY_MARK_KEPT)
+        if (marks[line] == KORZHINAY_MARK_KEPT || marks[line] == KORZHINAY_MARK_DEFINE)
             putchar(file[i]);
         if (file[i] == '\n')
             line++;

@@ -5,7 +5,7 @@
  * neither read nor written and may be null. Lent arrays are written as each call says, and nowhere else; they must not overlap each other
  * or what the same call reads. The library keeps no state, so calls may run at the same time.
  *
- * Refusals have numbers from 1 to 26, of enum korzhinay_refusal; korzhinay_meaning, at the end, has their meanings. docs/LANGUAGE.md
+ * Refusals have numbers from 1 to 28, of enum korzhinay_refusal; korzhinay_meaning, at the end, has their meanings. docs/LANGUAGE.md
  * describes the language, with an example of each refusal.
  *
  * Refusals 3 to 12 have a place, given as the offset of a byte from the start of the expression, in a selection from the start of the line:
@@ -40,17 +40,17 @@ extern "C" {
 #endif
 
 /* The version of this header, and of the library and the command that come with it. The shared library's name ends with the major number
- * and, while that is 0, with the minor one too, as libkorzhinay.so.0.2: a program finds only a library with the calls it was made for. */
+ * and, while that is 0, with the minor one too, as libkorzhinay.so.0.3: a program finds only a library with the calls it was made for. */
 #define KORZHINAY_VERSION_MAJOR 0
-#define KORZHINAY_VERSION_MINOR 2
+#define KORZHINAY_VERSION_MINOR 3
 #define KORZHINAY_VERSION_PATCH 0
-#define KORZHINAY_VERSION "0.2.0"
+#define KORZHINAY_VERSION "0.3.0"
 
 /* The limits. The refusal of what is past a limit is beside it. */
 #define KORZHINAY_RECORD_BYTES 128          /* of each record of a table, no more and no less: 1 */
 #define KORZHINAY_MAX_RECORDS 512           /* in a table: 1 */
 #define KORZHINAY_MAX_NAME_BYTES 64         /* of a name in a record; a longer name is in no table */
-#define KORZHINAY_MAX_CONTENT_BYTES 56      /* of a string in a record: 1 */
+#define KORZHINAY_MAX_CONTENT_BYTES 56      /* of a string in a record: 1; of one that a DEFINE line sets: 28 */
 #define KORZHINAY_MAX_EXPRESSION_BYTES 1024 /* of an expression: 2 */
 #define KORZHINAY_MAX_TOKENS 200            /* in an expression: 5 */
 #define KORZHINAY_MAX_PARENTHESES 16        /* that are open at the same time: 6 */
@@ -59,12 +59,13 @@ extern "C" {
 #define KORZHINAY_MAX_LINES 4096            /* in a file: 15 */
 #define KORZHINAY_MAX_LINE_BYTES 1024       /* of a line without its end: 17 */
 #define KORZHINAY_MAX_GROUPS 16             /* that are open at the same time: 20 */
+#define KORZHINAY_MAX_DEFINED 64            /* macros that the DEFINE lines of a file set: 27 */
 
 /* No call needs more than this many bytes of stack, whatever its input. They have to be free where the call is made: what a thread takes of
  * its stack for itself, and signal handlers, come on top. This is measured and not proved, since it depends on the frames that the compiler
  * makes: tests/stack/ makes every call on the deepest inputs that the limits allow, in threads that have just this much for it, and fails
  * if any call uses more than three quarters. */
-#define KORZHINAY_STACK 32768
+#define KORZHINAY_STACK 45056
 
 /* The numbers of refusals. A later version may have more: any number other than 0 is a refusal. */
 enum korzhinay_refusal {
@@ -93,7 +94,9 @@ enum korzhinay_refusal {
     KORZHINAY_REFUSAL_DATUM_UNKNOWN = 23,
     KORZHINAY_REFUSAL_DATUM_KIND = 24,
     KORZHINAY_REFUSAL_DATUM_RANGE = 25,
-    KORZHINAY_REFUSAL_BUFFER_SHORT = 26
+    KORZHINAY_REFUSAL_BUFFER_SHORT = 26,
+    KORZHINAY_REFUSAL_DEFINED_MANY = 27,
+    KORZHINAY_REFUSAL_DEFINED_LONG = 28
 };
 
 /* The editions of the language, as the dialect of a call. */
@@ -242,14 +245,18 @@ enum korzhinay_datum {
  *   out[0]  the line of the refusal, counted from 1; 0 without one, and for 1, 14, 15 and 16, which have no line
  *   out[1]  how many lines the file has; 0 with a refusal
  *   out[2]  how many operators were applied, summed over all expressions that were read; 0 with a refusal
- *   out[3]  the offset of the refusal, counted from the first byte of its line; 0 without one, and for 1 and 13 to 22
+ *   out[3]  the offset of the refusal, counted from the first byte of its line; 0 without one, and for 1, 13 to 22, 27 and 28
  * A line ends at LF, and a CR right before that LF is part of the end. What follows the last LF is a line if it has any byte.
  * KORZHINAY_MAX_LINES marks are always enough.
  * A line whose first byte, blanks left out, is `!` has as its word the letters after it; case matters. It is a directive if the word is
  * if, ifdef, ifndef, elseif, elif (the same as elseif), else or endif. With the words include and error it is plain, as all other lines
- * are. !if and !elseif are true if the expression after them is 1, !ifdef if the table has the macro's name, whatever its value, !ifndef
- * if it does not have it. If a group is in no branch, or in a branch that is taken, its first branch that is true is taken, or that of
- * its !else if none is true; in any other group no branch is taken.
+ * are. !if and !elseif are true if the expression after them is 1, !ifdef if the macro of this name is set, whatever its value, !ifndef
+ * if it is not. If a group is in no branch, or in a branch that is taken, its first branch that is true is taken, or that of its !else if
+ * none is true; in any other group no branch is taken.
+ * A plain line that is kept and has DEFINE as its first word (the whole run of letters, digits and _ at its first byte that is no blank)
+ * sets a macro, from the next line on: after the word come blanks, the macro's name, `=` and an expression; blanks round `=` are free. The
+ * value is that of the expression at this line. A later DEFINE of the same name overrides an earlier one, and what DEFINE lines set wins
+ * over the table, for !ifdef and !ifndef too. In any other branch such a line is a plain line like others. The table itself stays as it is.
  * Refusals, of which the first that applies is given; before all lines:
  *    1  the table is malformed
  *   14  the file is longer than 65,536 bytes
@@ -263,17 +270,20 @@ enum korzhinay_datum {
  *   20  a 17th !if, !ifdef or !ifndef while 16 are open, in a dropped branch too
  *   22  what follows a word that is read is not what it takes: no blank directly after !if, !ifdef, !ifndef, !elseif or !elif;
  *       anything except one macro, as NAME or, in the old edition, $(NAME), after !ifdef or !ifndef; anything at all after !else or
- *       !endif; blanks and a comment are allowed
- *   3 to 12  an expression that is read, as korzhinay_evaluate refuses it; but never 8, since `|` and `||` need no parentheses in
- *       directives: 9 to 12 are checked then; and never 2, since a line is too short for it
- *   13  the value of an expression that is read is neither the number 0 nor the number 1
+ *       !endif; blanks and a comment are allowed. In a kept line with DEFINE as its first word: no blank after it, no macro's name of at
+ *       most 64 bytes then, or no `=` after that
+ *   3 to 12  an expression that is read, as korzhinay_evaluate refuses it; but never 8 in a directive, since `|` and `||` need no
+ *       parentheses there: 9 to 12 are checked then; and never 2, since a line is too short for it. In a DEFINE line 8 is given
+ *   13  the value of a directive's expression is neither the number 0 nor the number 1
+ *   28  the value of a DEFINE line is a string of more than 56 bytes, of either kind
+ *   27  a DEFINE line sets a 65th macro: one that none of the DEFINE lines before it set, while these set 64; the table does not count
  * and after the last line:
  *   21  an !if, !ifdef or !ifndef is still open; the line is that of the innermost one */
 uint8_t korzhinay_select(uint8_t *marks, size_t marks_len, const uint8_t *file, size_t file_len, const uint8_t *table,
                          size_t table_len, uint8_t dialect, uint64_t out[4]);
 
 /* The marks of lines. A directive is read if the outcome depends on it: if the branch around its group is taken or there is none and, for
- * !elseif and !elif, if no earlier branch of its group was taken. */
+ * !elseif and !elif, if no earlier branch of its group was taken. The lines that are kept have the marks 1 and 6. */
 enum korzhinay_mark {
     KORZHINAY_MARK_DROPPED = 0,   /* a plain line in a branch that is not taken */
     KORZHINAY_MARK_KEPT = 1,      /* a plain line that is kept */
@@ -281,6 +291,7 @@ enum korzhinay_mark {
     KORZHINAY_MARK_NOT_TAKEN = 3, /* a directive that was read; the branch after it is not taken */
     KORZHINAY_MARK_TAKEN = 4,     /* a directive that was read; the branch after it is taken */
     KORZHINAY_MARK_END = 5,       /* an !endif that was read */
+    KORZHINAY_MARK_DEFINE = 6,    /* a plain line that is kept and sets a macro */
     KORZHINAY_MARK_REFUSED = 255  /* every byte of marks after a refusal */
 };
 
@@ -310,11 +321,13 @@ static inline const char *korzhinay_meaning(uint8_t number)
     case KORZHINAY_REFUSAL_DIRECTIVE_STRAY: return "the directive has no open `!if`, or comes after its `!else`";
     case KORZHINAY_REFUSAL_NESTING_DEEP: return "16 groups are open already";
     case KORZHINAY_REFUSAL_FILE_UNFINISHED: return "this `!if` is still open at the end of the file";
-    case KORZHINAY_REFUSAL_TEXT_MALFORMED: return "the text after the directive's word is not what it takes";
+    case KORZHINAY_REFUSAL_TEXT_MALFORMED: return "the text after the line's word is not what it takes";
     case KORZHINAY_REFUSAL_DATUM_UNKNOWN: return "unknown datum type";
     case KORZHINAY_REFUSAL_DATUM_KIND: return "the value's kind does not suit the datum type";
     case KORZHINAY_REFUSAL_DATUM_RANGE: return "the number is too large for the datum type";
     case KORZHINAY_REFUSAL_BUFFER_SHORT: return "the buffer is shorter than the field";
+    case KORZHINAY_REFUSAL_DEFINED_MANY: return "DEFINE lines set more than 64 macros";
+    case KORZHINAY_REFUSAL_DEFINED_LONG: return "DEFINE sets a string of more than 56 bytes";
     default: return "unknown refusal";
     }
 }

@@ -90,7 +90,7 @@ def field(expression, table, datum, room, dialect=OLD):
 
 def unmarked(length):
     """What is in the marks before the call: no byte is a mark, or that of its neighbours."""
-    return bytes(6 + 7 * i % 241 for i in range(length))
+    return bytes(7 + 7 * i % 241 for i in range(length))
 
 
 def select(file, table, room, dialect=OLD):

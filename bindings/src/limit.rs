@@ -8,7 +8,7 @@ pub const MAX_RECORDS: usize = 512;
 /// The most bytes of a name in a record.
 pub const MAX_NAME_BYTES: usize = 64;
 
-/// The most bytes of a string in a record.
+/// The most bytes of a string in a record, and of one that a `DEFINE` line sets.
 pub const MAX_CONTENT_BYTES: usize = 56;
 
 pub const MAX_EXPRESSION_BYTES: usize = 1_024;
@@ -31,5 +31,8 @@ pub const MAX_LINE_BYTES: usize = 1_024;
 /// The most groups that are open at the same time.
 pub const MAX_GROUPS: usize = 16;
 
+/// The most macros that the `DEFINE` lines of a file set.
+pub const MAX_DEFINED: usize = 64;
+
 /// The bytes of stack that have to be left where a call is made.
-pub const STACK: usize = 32_768;
+pub const STACK: usize = 45_056;

@@ -12,5 +12,7 @@ pub const NOT_TAKEN: u8 = 3;
 pub const TAKEN: u8 = 4;
 /// An `!endif` that was read.
 pub const END: u8 = 5;
+/// A plain line that is kept and sets a macro.
+pub const DEFINE: u8 = 6;
 /// Every byte of the marks after a refusal.
 pub const REFUSED: u8 = 255;

@@ -26,3 +26,5 @@ pub const DATUM_UNKNOWN: u8 = 23;
 pub const DATUM_KIND: u8 = 24;
 pub const DATUM_RANGE: u8 = 25;
 pub const BUFFER_SHORT: u8 = 26;
+pub const DEFINED_MANY: u8 = 27;
+pub const DEFINED_LONG: u8 = 28;

@@ -106,6 +106,24 @@ fn groups_of_depth(depth: usize) -> Vec<u8> {
     [b"!if 1\n".repeat(depth), b"!endif\n".repeat(depth)].concat()
 }
 
+/// A line for each of so many macros.
+fn defined_macros(count: usize) -> Vec<u8> {
+    let lines = (0..count).map(|each| format!("DEFINE A{each} = {each}\n"));
+    lines.collect::<String>().into_bytes()
+}
+
+fn defined_string(bytes: usize) -> Vec<u8> {
+    format!("DEFINE A = '{}'", "x".repeat(bytes)).into_bytes()
+}
+
+fn defined_wide(bytes: usize) -> Vec<u8> {
+    format!("DEFINE A = L'{}'", "x".repeat(bytes)).into_bytes()
+}
+
+fn defined_name(bytes: usize) -> Vec<u8> {
+    format!("DEFINE {} = 1", "A".repeat(bytes)).into_bytes()
+}
+
 fn selected(file: &[u8]) -> u8 {
     select(
         &mut [0; MAX_LINES + 1],
@@ -119,11 +137,15 @@ fn selected(file: &[u8]) -> u8 {
 #[test]
 fn files() {
     type Made = fn(usize) -> Vec<u8>;
-    let limits: [(Made, usize, u8); 4] = [
+    let limits: [(Made, usize, u8); 8] = [
         (file_of_bytes, MAX_FILE_BYTES, refusal::FILE_LONG),
         (file_of_lines, MAX_LINES, refusal::LINES_MANY),
         (line_of_bytes, MAX_LINE_BYTES, refusal::LINE_LONG),
         (groups_of_depth, MAX_GROUPS, refusal::NESTING_DEEP),
+        (defined_macros, MAX_DEFINED, refusal::DEFINED_MANY),
+        (defined_string, MAX_CONTENT_BYTES, refusal::DEFINED_LONG),
+        (defined_wide, MAX_CONTENT_BYTES, refusal::DEFINED_LONG),
+        (defined_name, MAX_NAME_BYTES, refusal::TEXT_MALFORMED),
     ];
     for (made, limit, past) in limits {
         assert_eq!(selected(&made(limit)), 0, "{limit}");

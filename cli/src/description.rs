@@ -3,7 +3,9 @@
 
 mod bare;
 mod bytes;
+mod define;
 mod directive;
+mod expression;
 mod hidden;
 mod mentions;
 mod plain;
@@ -12,8 +14,10 @@ mod runs;
 
 pub use bare::{bare_words, bare_words_of_line};
 pub use bytes::{oddities, Oddity, Oddness, BYTE_ORDER_MARK};
+pub use define::{define, Define, Slip};
 pub use directive::{directive, first_byte};
-pub use hidden::hidden_directive;
+pub use expression::expression_of_line;
+pub use hidden::{hidden, Hidden};
 pub use mentions::{is_macro_name, macro_name, mentions, Mention, Sort};
 pub use plain::{plain, Plain};
 pub use quoted::quoted_macros;

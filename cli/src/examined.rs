@@ -1,6 +1,6 @@
 //! A description file that the library has judged.
 
-use crate::description::{mentions, Mention};
+use crate::description::{define, mentions, Define, Mention};
 use crate::library::{self, mark, Selection, Terms};
 use crate::refusals::of_file;
 use crate::terminal::{escaped, lines, read, without_end, Error, Refused};
@@ -48,19 +48,17 @@ impl<'a> Examined<'a> {
         lines(&self.bytes).zip(marks.unwrap_or_default().iter().copied())
     }
 
-    /// What the directives name, with the number of the line, and whether that directive is read; this is not known in a file that is
-    /// refused.
-    pub fn mentions(&self) -> impl Iterator<Item = (usize, Option<bool>, Mention<'_>)> {
+    /// All lines without their ends, each with its number, and whether it is read; this is not known in a file that is refused.
+    pub fn numbered(&self) -> impl Iterator<Item = (usize, Option<bool>, &[u8])> {
         let marks = self.outcome.as_ref().ok().map(|found| &found.marks);
         let of_line = move |(at, line)| {
             let is_read = marks.map(|marks| is_read(marks[at]));
-            let all = mentions(without_end(line)).into_iter();
-            all.map(move |mention| (at + 1, is_read, mention))
+            (at + 1, is_read, without_end(line))
         };
-        lines(&self.bytes).enumerate().flat_map(of_line)
+        lines(&self.bytes).enumerate().map(of_line)
     }
 
-    /// The directives that are read, each with the number of its line.
+    /// The directives and `DEFINE` lines that are read, each with its number.
     pub fn read_lines(&self) -> impl Iterator<Item = (usize, &[u8])> {
         let numbered = (1..).zip(self.marked());
         numbered.filter_map(|(number, (line, mark))| {
@@ -69,16 +67,35 @@ impl<'a> Examined<'a> {
         })
     }
 
-    /// What the directives name that are read, with the number of the line. The text of no other line is looked at.
+    /// What the lines name that are read, with the number of the line. The text of no other line is looked at.
     pub fn read_mentions(&self) -> impl Iterator<Item = (usize, Mention<'_>)> {
         self.read_lines().flat_map(|(number, line)| {
             let all = mentions(line).into_iter();
             all.map(move |mention| (number, mention))
         })
     }
+
+    /// The lines that set a macro, each with its number and what it sets.
+    pub fn definitions(&self) -> impl Iterator<Item = (usize, &[u8], Define<'_>)> {
+        let numbered = (1..).zip(self.marked());
+        numbered
+            .filter(|(_, (_, mark))| *mark == mark::DEFINE)
+            .filter_map(|(number, (line, _))| {
+                let text = without_end(line);
+                Some((number, text, define(text)?.ok()?))
+            })
+    }
 }
 
-/// Whether a mark is that of a directive that is read.
+/// Whether a mark is that of a line that is kept.
+pub fn is_kept(mark: u8) -> bool {
+    matches!(mark, mark::KEPT | mark::DEFINE)
+}
+
+/// Whether a mark is that of a directive that is read, or of a `DEFINE` line that is kept, which counts as one.
 fn is_read(mark: u8) -> bool {
-    matches!(mark, mark::NOT_TAKEN | mark::TAKEN | mark::END)
+    matches!(
+        mark,
+        mark::NOT_TAKEN | mark::TAKEN | mark::END | mark::DEFINE
+    )
 }

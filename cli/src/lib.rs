@@ -10,6 +10,7 @@ mod examined;
 mod library;
 mod notes;
 mod refusals;
+mod scope;
 mod settings;
 mod terminal;
 

@@ -5,8 +5,10 @@ mod bare;
 mod encoding;
 mod hidden;
 mod kept;
+mod known;
 mod note;
 mod old;
+mod overriding;
 mod quoted;
 mod similar;
 mod unset;
@@ -19,8 +21,9 @@ pub use unused::of_settings;
 use crate::description::Mention;
 use crate::examined::Examined;
 use crate::settings::Settings;
+use known::Known;
 
-/// The notes of one file, in the order of its lines, from what its read directives name. If it is refused, only its bytes are looked at.
+/// The notes of one file, in the order of its lines, from what its read lines name. If it is refused, only its bytes are looked at.
 /// `warns_old` is for those on what the new edition would refuse.
 pub fn of_file(
     file: &Examined,
@@ -29,12 +32,14 @@ pub fn of_file(
     warns_old: bool,
 ) -> Vec<Note> {
     let read: Vec<(usize, &[u8])> = file.read_lines().collect();
+    let known = Known::new(file, settings);
     let mut notes = encoding::notes(file);
     notes.extend(hidden::notes(file));
-    notes.extend(unset::notes(file, mentions, settings));
+    notes.extend(unset::notes(file, &read, mentions, &known));
+    notes.extend(overriding::notes(file, mentions, settings));
     notes.extend(quoted::notes(file, &read));
-    notes.extend(bare::notes(file, &read, settings));
-    notes.extend(kept::notes(file, settings));
+    notes.extend(bare::notes(file, &read, &known));
+    notes.extend(kept::notes(file, &known));
     if warns_old {
         notes.extend(old::notes(file, &read, mentions));
     }

@@ -3,6 +3,7 @@
 
 mod bad_token;
 mod brief;
+mod define;
 mod directive;
 mod excerpt;
 mod expression;
@@ -11,6 +12,7 @@ mod file;
 mod grammar;
 mod groups;
 mod kinds;
+mod line;
 mod meanings;
 mod meant;
 mod message;
@@ -18,6 +20,7 @@ mod names;
 mod operands;
 mod results;
 mod table;
+mod unquoted;
 mod values;
 
 pub use expression::{of_expression, NAME as EXPRESSION};

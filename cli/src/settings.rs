@@ -9,5 +9,6 @@ mod record;
 mod setting;
 mod sources;
 
-pub use record::{records, stored_name};
+pub use blanks::{split_comment, trim};
+pub use record::{encode, records, stored_name};
 pub use sources::{Definition, Settings, Sources};

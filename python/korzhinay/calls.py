@@ -90,12 +90,15 @@ def field(
 
 
 def select(file: bytes, table: TableLike = b"", *, edition: Edition = Edition.OLD) -> Selection:
-    r"""Which lines of a description file are kept under a table of settings. Refused (1, 3 to 7, 9 to 15, 17 to 22) says in which line.
+    r"""Which lines of a description file are kept under a table of settings. Refused (1, 3 to 15, 17 to 22, 27, 28) says in which line.
 
-    A file is bytes and never a str, which may have lost the line ends that the file had.
+    A file is bytes and never a str, which may have lost the line ends that the file had. A kept DEFINE line sets a macro for the lines
+    after it, whatever the table says; the table itself stays as it is.
 
     >>> select(b"!if $(WEEK) LE 5\nWatchdog.inf\n!endif\n", {"WEEK": 3}).kept()
     b'Watchdog.inf\n'
+    >>> select(b"DEFINE WEEK = 50\n!if $(WEEK) LE 5\nWatchdog.inf\n!endif\n", {"WEEK": 3}).marks
+    b'\x06\x03\x00\x05'
     """
     text = unchanging(file)
     refusal, line, offset, operators, marks = raw.select(MAX_LINES, text, records_of(table), Edition(edition))

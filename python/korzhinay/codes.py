@@ -78,6 +78,7 @@ class Mark(IntEnum):
     NOT_TAKEN = 3  # a directive that was read; the branch after it is not taken
     TAKEN = 4  # a directive that was read; the branch after it is taken
     END = 5  # an `!endif` that was read
+    DEFINE = 6  # a plain line that is kept and sets a macro
     REFUSED = 255  # every byte of the C call's marks after a refusal; no `Selection` has it
 
 

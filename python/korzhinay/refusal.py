@@ -28,11 +28,13 @@ MEANINGS: Final[Mapping[int, str]] = {
     19: "the directive has no open `!if`, or comes after its `!else`",
     20: "16 groups are open already",
     21: "this `!if` is still open at the end of the file",
-    22: "the text after the directive's word is not what it takes",
+    22: "the text after the line's word is not what it takes",
     23: "unknown datum type",
     24: "the value's kind does not suit the datum type",
     25: "the number is too large for the datum type",
     26: "the buffer is shorter than the field",
+    27: "DEFINE lines set more than 64 macros",
+    28: "DEFINE sets a string of more than 56 bytes",
 }
 """What each number means."""
 
@@ -46,7 +48,7 @@ PLACED: Final = range(3, 13)
 class Refused(Exception):
     """A refusal of an input by the rules.
 
-    `number` is the refusal's number, from 1 to 26, and `meaning` says it in words. `line` is the line of a selection, counted from 1; it is
+    `number` is the refusal's number, from 1 to 28, and `meaning` says it in words. `line` is the line of a selection, counted from 1; it is
     0 for expressions, fields and tables, and where a selection has no line (1, 14 and 15). `offset` is that of the byte at fault, counted
     from 0, in the expression or in the line; only 3 to 12 have one, and for all others it is 0. `tokens` are those that `tokens` read
     before the fault; no other call has any.

@@ -4,9 +4,12 @@ from __future__ import annotations
 
 import io
 from dataclasses import dataclass, field
-from typing import Iterator, List, Tuple
+from typing import Final, Iterator, List, Tuple
 
 from .codes import Mark
+
+KEPT: Final = (Mark.KEPT, Mark.DEFINE)
+"""The marks of the lines that are kept."""
 
 
 @dataclass(frozen=True)
@@ -33,8 +36,8 @@ class Selection:
             yield number, Mark(mark), line
 
     def kept(self) -> bytes:
-        """The lines that are kept, byte for byte."""
-        return b"".join(line for _, mark, line in self.annotated() if mark == Mark.KEPT)
+        """The lines that are kept, byte for byte, DEFINE lines included."""
+        return b"".join(line for _, mark, line in self.annotated() if mark in KEPT)
 
 
 def lines_of(file: bytes) -> List[bytes]:

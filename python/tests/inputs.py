@@ -18,8 +18,9 @@ OPERATORS = b"+ - * / % << >> < <= == != & ^ | && || AND OR XOR LE ? :".split()
 COMPARED, WORDS = b"== != EQ NE".split(), b"a _b L AND TRUE".split()
 PIECES = OPERANDS + OPERATORS + b"( ) ! ~ NOT # @ 0x 99999999999999999999 a == a L' foo.1".split()
 DIRECTIVES = b"!if 1,!if 0,!if $(A),!ifdef A,!ifndef A,!elseif 1,!elif 0,!else,!endif,!endif,plain,".split(b",")
-DIRECTIVES += b"!ifdef $(A),!if $(S) == a,!endif".split(b",")
+DIRECTIVES += b"!ifdef $(A),!if $(S) == a,!endif,DEFINE A = 0,DEFINE B = $(A) + 1,DEFINE S=$(W),!ifdef B,!endif".split(b",")
 LINES = DIRECTIVES + b"!include x,!error,\xff\0,!if 1 / 0,!if 2,!iff,!else x,  !endif # x".split(b",")
+LINES += b"DEFINE,DEFINE a = 1,DEFINE A = 1 | 2,DEFINED".split(b",")
 
 
 class Inputs:
@@ -60,11 +61,18 @@ class Inputs:
         at_limits = self.repeated([b"(", b"+", b" "], [16, 200, 1024])
         return [self.any_bytes(40), self.some(PIECES, b" ", 9), self.some(PIECES, b"", 5), at_limits][sort]
 
+    def some_names(self) -> bytes:
+        """DEFINE lines of as many names as a file may set, or of one more."""
+        return b"".join(b"DEFINE N%02d = 1\n" % each for each in range(64 + self.draw.randrange(2)))
+
     def file(self) -> bytes:
         sort, end = self.draw.randrange(6), self.draw.choice([b"\n", b"\r\n"])
-        if sort > 3:
+        if sort == 5:
             return b"x%s!if %s%s!endif%s" % (end, self.expression(), end, end)
-        at_limits = self.repeated([b"x"], [1024, 65536]), self.repeated([b"\n", b"!if 0\n", b"!else\n"], [16, 4096])
+        if sort == 4:
+            return b"DEFINE C = %s%s!if $(C) == 1%s!endif%s" % (self.expression(), end, end, end)
+        at_limits = [self.repeated([b"x"], [1024, 65536]), self.repeated([b"\n", b"!if 0\n", b"!else\n"], [16, 4096])]
+        at_limits += [self.some_names(), b"DEFINE A = '%s'" % self.repeated([b"y"], [56])]
         return [self.any_bytes(80), self.some(LINES, end, 12), self.some(DIRECTIVES, end, 9), self.draw.choice(at_limits)][sort]
 
     def table(self) -> bytes:

@@ -31,7 +31,7 @@ PLATFORM = b"""\
   }
 !endif
   !include A/Four.dsc.inc
-  DEFINE FIVE = A/Five
+  DEFINE FIVE = "A/Five.inf"
 [LibraryClasses.common]
   SixLib|A/SixLib.inf
 [ components.IA32 , COMPONENTS.X64 ]

@@ -37,6 +37,15 @@ class Guarded(unittest.TestCase):
             self.assertEqual(field("'' != " + "x" * 1018, Datum.BOOLEAN), b"\1")
             self.assertEqual(select(b"!if '' != %s\n!endif" % (b"x" * 1014)).marks, b"\4\5")
 
+    def test_define_lines_at_the_limits(self) -> None:
+        lines = b"".join(b"DEFINE N%02d = '%s'\n" % (each, b"y" * 56) for each in range(64))
+        tests = b"".join(b"!if $(N%02d) == $(N63)\n!endif\n" % each for each in range(64))
+        with guarded():
+            self.assertEqual(select(lines + tests).marks, b"\6" * 64 + b"\4\5" * 64)
+            self.assertEqual(outcome(select, lines + b"DEFINE N64 = 1"), (27, 65, 0))
+            self.assertEqual(outcome(select, lines + b"DEFINE N00 = '%s'" % (b"y" * 57)), (28, 65, 0))
+            self.assertEqual(select(b"DEFINE A=$(A)+1\n" * 4096).operators, 4096)
+
     def test_a_malformed_table_writes_nothing_that_is_read(self) -> None:
         with guarded():
             self.assertEqual(raw.lookup(b"x", b"A")[0], 1)

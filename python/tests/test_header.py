@@ -28,6 +28,8 @@ NAMED = {
     15: limits.MAX_LINES,
     17: limits.MAX_LINE_BYTES,
     20: limits.MAX_GROUPS,
+    27: limits.MAX_DEFINED,
+    28: limits.MAX_CONTENT_BYTES,
 }
 
 
@@ -43,8 +45,8 @@ class Header(unittest.TestCase):
 
     def test_meanings(self) -> None:
         self.assertEqual({0: "no refusal", **MEANINGS}, header.meanings())
-        self.assertEqual(list(MEANINGS), list(range(1, 27)))
-        self.assertEqual({Refused(number).meaning for number in (0, 27, 255)}, {header.other_meaning()})
+        self.assertEqual(list(MEANINGS), list(range(1, 29)))
+        self.assertEqual({Refused(number).meaning for number in (0, 29, 255)}, {header.other_meaning()})
 
     def test_functions(self) -> None:
         self.assertEqual({name: list(types) for name, types in SIGNATURES.items()}, header.functions())

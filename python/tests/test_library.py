@@ -65,9 +65,10 @@ class Library(unittest.TestCase):
         self.assertEqual(imported(self.installed, LD_LIBRARY_PATH=str(self.folder)), (0, "%s 2\n" % INSTALLED))
 
     def test_a_library_of_another_version(self) -> None:
-        # The calls of 0.1 took no dialect.
-        for name in "libkorzhinay.so", "libkorzhinay.so.0", "libkorzhinay.so.0.1.0", "libkorzhinay.so.0.3", "libkorzhinay.so.1.2":
-            self.library(name)
+        # The calls of 0.1 took no dialect, and those of 0.2 obeyed no DEFINE line.
+        for ending in "", ".0", ".0.2", ".0.4", ".1.3":
+            self.library("libkorzhinay.so" + ending)
+        self.library(INSTALLED + ".0")
         status, said = imported(self.installed, LD_LIBRARY_PATH=str(self.folder))
         self.assertEqual(status, 1)
         self.assertRegex(said, FAULT % (INSTALLED.replace(".", r"\.") + ": [^\n]*"))

@@ -48,6 +48,18 @@ class Limits(unittest.TestCase):
     def test_groups(self) -> None:
         self.at_and_past(lambda n: select(b"!if 0\n" * n + b"!endif\n" * n), limits.MAX_GROUPS, 0, 20)
 
+    def test_macros_that_are_set(self) -> None:
+        lines = [b"DEFINE N%02d = 1\n" % each for each in range(limits.MAX_DEFINED + 1)]
+        self.at_and_past(lambda n: select(b"".join(lines[:n])), limits.MAX_DEFINED, 0, 27)
+        self.at_and_past(lambda n: select(lines[0] * n), limits.MAX_DEFINED, 0, 0)
+
+    def test_strings_that_are_set(self) -> None:
+        for front in b"", b"L":
+            self.at_and_past(lambda n: select(b"DEFINE A = %s'%s'" % (front, b"y" * n)), limits.MAX_CONTENT_BYTES, 0, 28)
+
+    def test_names_that_are_set(self) -> None:
+        self.at_and_past(lambda n: select(b"DEFINE %s = 1" % (b"X" * n)), limits.MAX_NAME_BYTES, 0, 22)
+
     def test_records(self) -> None:
         made = [bytes(Table({"N%04d" % each: each})) for each in range(limits.MAX_RECORDS + 1)]
         self.at_and_past(lambda n: check_table(b"".join(made[:n])), limits.MAX_RECORDS, 0, 1)

@@ -20,7 +20,7 @@ ANSWERS: Dict[Any, Tuple[Any, Any]] = {
     tokens: (tuple, set(range(2, 7))),
     evaluate: (Value, EXPRESSION),
     field: (bytes, EXPRESSION | set(range(23, 26))),
-    select: (Selection, set(range(1, 23)) - {2, 8, 16}),
+    select: (Selection, {*range(1, 23), 27, 28} - {2, 16}),
     check_table: (type(None), {1}),
     Table.from_bytes: (Table, {1}),
     TABLE.lookup: ((int, bytes, Wide, type(None)), set()),
@@ -47,7 +47,7 @@ class Random(unittest.TestCase):
                     self.assertIsInstance(answer, kinds)
                     met[call] += 1
         # The inputs are worth something: every call is answered, and every refusal is met for which enough is lent.
-        self.assertEqual(set(met), {*ANSWERS, *range(1, 26)} - {16})
+        self.assertEqual(set(met), {*ANSWERS, *range(1, 26), 27, 28} - {16})
 
     def test_guards_and_what_was_in_lent_arrays_before(self) -> None:
         made = list(calls(2, COUNT // 4))

@@ -37,6 +37,9 @@ FILES = [
     (20, b"!if 0\n" * 17, 17),
     (21, b"!if 1\n!if 0\n", 2),
     (22, b"!else\n".join([b"!if 1\n", b"!endif x\n"]), 3),
+    (22, b"x\n  DEFINE a = 1\n", 2),
+    (27, b"".join(b"DEFINE N%02d = 1\n" % each for each in range(65)), 65),
+    (28, b"x\nDEFINE A = '%s'" % (b"y" * 57), 2),
 ]
 # Of a field: the number, and the arguments.
 FIELDS = [(23, ("1", 6)), (24, ("1", Datum.VOID)), (25, ("2", Datum.BOOLEAN))]
@@ -59,6 +62,13 @@ class Numbers(unittest.TestCase):
             wanted = {2: (17, 2, 0), 8: (13, 2, 0)}.get(number, (number, 2, offset + len("  !if ")))
             with self.subTest(number, edition=edition):
                 self.assertEqual(outcome(select, FRONT + expression.encode() + b"\r\n!endif", edition=edition), wanted)
+
+    def test_expressions_of_define_lines(self) -> None:
+        for edition, (number, expression, offset) in itertools.product(Edition, EXPRESSIONS):
+            # Here bars need their parentheses.
+            wanted = (17, 2, 0) if number == 2 else (number, 2, offset + len("\tDEFINE A = "))
+            with self.subTest(number, edition=edition):
+                self.assertEqual(outcome(select, b"x\n\tDEFINE A = %s\r\n" % expression.encode(), edition=edition), wanted)
 
     def test_files(self) -> None:
         for edition, (number, file, line) in itertools.product(Edition, FILES):
@@ -93,6 +103,7 @@ class Exceptions(unittest.TestCase):
             (Refused(12, 4, 6), "refused (12): zero divisor, in line 4 at offset 6"),
             (Refused(18, 2), "refused (18): unknown directive, in line 2"),
             (Refused(14), "refused (14): the file is longer than 65,536 bytes"),
+            (Refused(27, 65), "refused (27): DEFINE lines set more than 64 macros, in line 65"),
             (Refused(99), "refused (99): unknown refusal"),
         ]:
             self.assertEqual(str(refused), text)

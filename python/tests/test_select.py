@@ -5,7 +5,7 @@ from __future__ import annotations
 import itertools
 import unittest
 
-from korzhinay import Edition, Mark, Selection, Table, select
+from korzhinay import Edition, Mark, Selection, Table, evaluate, select
 
 from .checkout import COMMAND, CORPUS, EXAMPLES, run
 from .outcome import outcome
@@ -52,6 +52,36 @@ class Select(unittest.TestCase):
     def test_marks_and_lines_belong_together(self) -> None:
         with self.assertRaisesRegex(ValueError, "^1 marks for 2 lines$"):
             Selection(b"\1", 0, b"a\nb")
+
+
+class Define(unittest.TestCase):
+    """DEFINE lines set macros for the lines after them."""
+
+    def test_a_kept_line(self) -> None:
+        file = b"!if $(WEEK)\nx\n!endif\n\tDEFINE WEEK = 1 # set\r\n!if $(WEEK)\ny\n!endif\n"
+        selection = select(file)
+        self.assertEqual(selection.marks, bytes([3, 0, 5, Mark.DEFINE, 4, 1, 5]))
+        self.assertEqual(selection.kept(), b"\tDEFINE WEEK = 1 # set\r\ny\n")
+
+    def test_it_wins_over_the_table_which_stays(self) -> None:
+        table = Table(WEEK=3)
+        for content, condition in (b"50", b"$(WEEK) == 50"), (b"'a'", b"$(WEEK) == 'a'"), (b"$(WEEK) + 1", b"$(WEEK) == 4"):
+            with self.subTest(content):
+                file = b"DEFINE WEEK = %s\n!if %s\nx\n!endif\n!ifdef WEEK\ny\n!endif" % (content, condition)
+                self.assertEqual(select(file, table).marks, bytes([6, 4, 1, 5, 4, 1, 5]))
+        self.assertEqual(table, {"WEEK": 3})
+        self.assertEqual(evaluate("$(WEEK)", table).number, 3)
+
+    def test_one_that_is_not_kept(self) -> None:
+        file = b"!if 0\nDEFINE WEEK = @\nDEFINE\n!endif\n!ifdef WEEK\n!endif"
+        self.assertEqual(select(file), Selection(bytes([3, 0, 0, 5, 3, 5]), 0, file))
+
+    def test_operators_count(self) -> None:
+        self.assertEqual(select(b"DEFINE A = 1 + 2 * 3\n!if $(A) == 7\n!endif").operators, 3)
+
+    def test_nothing_is_left_from_another_call(self) -> None:
+        for _ in range(2):
+            self.assertEqual(select(b"!ifdef A\n!endif\nDEFINE A = 1").marks, bytes([3, 5, 6]))
 
 
 class Command(unittest.TestCase):

@@ -326,6 +326,83 @@ static void check_selection(const uint8_t *table, size_t table_len)
     check("eight", shows(out, 0, 8, 0, 0) && holds(marks, "\1\1\1\1\1\1\1\1", 8));
 }
 
+/* DEFINE lines. */
+static void check_define(const uint8_t *table, size_t table_len)
+{
+    static const char set[] = {KORZHINAY_MARK_DEFINE, KORZHINAY_MARK_TAKEN, KORZHINAY_MARK_KEPT, KORZHINAY_MARK_END,
+                               KORZHINAY_MARK_TAKEN, KORZHINAY_MARK_END};
+    uint8_t before[2 * KORZHINAY_RECORD_BYTES], marks[8];
+    uint64_t out[4];
+
+    memcpy(before, table, table_len);
+    check("a macro", selection(marks, 8, "DEFINE A=$(WEEK) + 2\n!if $(A) == 50\na\n!endif\n!ifdef A\n!endif", table, table_len, out) == 0);
+    check("that is set, with its operator", shows(out, 0, 6, 2, 0) && holds(marks, set, 6));
+    check("one of the table", selection(marks, 8, "DEFINE WEEK = 'x'\n!if $(WEEK) == 'x'\n!endif", table, table_len, out) == 0);
+    check("that is another one now", shows(out, 0, 3, 1, 0) && holds(marks, "\6\4\5", 3));
+    check("and the table stays", memcmp(before, table, table_len) == 0);
+    check("a dropped line", selection(marks, 8, "!if 0\nDEFINE\nDEFINE A = 1\n!endif\n!ifdef A\n!endif", NULL, 0, out) == 0);
+    check("that sets nothing", shows(out, 0, 6, 0, 0) && holds(marks, "\3\0\0\5\3\5", 6));
+    check("another shape", selection(marks, 8, "a\n DEFINE a = 1", NULL, 0, out) == KORZHINAY_REFUSAL_TEXT_MALFORMED);
+    check("has a line and no place in it", shows(out, 2, 0, 0, 0) && refused(marks, 8));
+    check("a bar", selection(marks, 8, "DEFINE A = 1 | 2", NULL, 0, out) == KORZHINAY_REFUSAL_BAR_OUTSIDE);
+    check("that needs parentheses here", shows(out, 1, 0, 0, 13) && refused(marks, 8));
+}
+
+/* A DEFINE line with a string of so many bytes. */
+static uint8_t set_string(uint8_t marks[8], int bytes, uint64_t out[4])
+{
+    char file[KORZHINAY_MAX_CONTENT_BYTES + 32];
+    snprintf(file, sizeof file, "x\nDEFINE A = '%0*d'", bytes, 0);
+    return selection(marks, 8, file, NULL, 0, out);
+}
+
+static void check_longest_string(void)
+{
+    uint8_t marks[8];
+    uint64_t out[4];
+
+    check("the longest string", set_string(marks, KORZHINAY_MAX_CONTENT_BYTES, out) == 0 && holds(marks, "\1\6", 2));
+    check("a longer one", set_string(marks, KORZHINAY_MAX_CONTENT_BYTES + 1, out) == KORZHINAY_REFUSAL_DEFINED_LONG);
+    check("is refused in line 2", shows(out, 2, 0, 0, 0) && refused(marks, 8));
+}
+
+/* So many DEFINE lines, each of another macro, at most one more than a file may set. */
+static uint8_t set_macros(uint8_t marks[KORZHINAY_MAX_DEFINED + 1], size_t count, uint64_t out[4])
+{
+    static const char line[] = "DEFINE N00 = 1\n";
+    size_t length = sizeof line - 1;
+    uint8_t file[(KORZHINAY_MAX_DEFINED + 1) * sizeof line];
+    struct lent lent;
+    for (size_t i = 0; i < count; i++) {
+        memcpy(file + i * length, line, length);
+        file[i * length + 8] += i / 10;
+        file[i * length + 9] += i % 10;
+    }
+    uint8_t refusal = korzhinay_select(lend(&lent, count), count, file, count * length, NULL, 0, dialect, out);
+    take_back("beside many marks", &lent, marks, count);
+    return refusal;
+}
+
+static int all_are(uint8_t mark, const uint8_t *marks, size_t count)
+{
+    for (size_t i = 0; i < count; i++)
+        if (marks[i] != mark)
+            return 0;
+    return 1;
+}
+
+static void check_most_macros(void)
+{
+    size_t most = KORZHINAY_MAX_DEFINED;
+    uint8_t marks[KORZHINAY_MAX_DEFINED + 1];
+    uint64_t out[4];
+
+    check("as many macros as there can be", set_macros(marks, most, out) == 0);
+    check("are set", shows(out, 0, most, 0, 0) && all_are(KORZHINAY_MARK_DEFINE, marks, most));
+    check("one more", set_macros(marks, most + 1, out) == KORZHINAY_REFUSAL_DEFINED_MANY);
+    check("is refused in its line", shows(out, most + 1, 0, 0, 0) && all_are(KORZHINAY_MARK_REFUSED, marks, most + 1));
+}
+
 /* What is taken in the old edition. */
 static void check_old(const uint8_t *table, size_t table_len)
 {
@@ -342,6 +419,8 @@ static void check_old(const uint8_t *table, size_t table_len)
     check("and its mark", shows(out, 0, 2, 1, 0) && holds(bytes, "\3\5", 2));
     check("a macro after !ifdef", selection(bytes, 8, "!ifdef $(WEEK)\n!endif", table, table_len, out) == 0);
     check("that is set", shows(out, 0, 2, 0, 0) && holds(bytes, "\4\5", 2));
+    check("a DEFINE line", selection(bytes, 8, "DEFINE A = 'a' == a\n!ifdef $(A)\n!endif", NULL, 0, out) == 0);
+    check("and its macro", shows(out, 0, 3, 1, 0) && holds(bytes, "\6\4\5", 3));
 }
 
 /* What is refused in the new one. */
@@ -361,6 +440,8 @@ static void check_new(const uint8_t *table, size_t table_len)
     check("at the word", shows(out, 1, 0, 0, 11) && refused(bytes, 8));
     check("no macro after !ifndef", selection(bytes, 8, "!ifndef $(NO)\n!endif", NULL, 0, out) == KORZHINAY_REFUSAL_TEXT_MALFORMED);
     check("in line 1", shows(out, 1, 0, 0, 0) && refused(bytes, 8));
+    check("no DEFINE line", selection(bytes, 8, "DEFINE A = 'a' == a\n", NULL, 0, out) == KORZHINAY_REFUSAL_TOKEN_BAD);
+    check("at the word, again", shows(out, 1, 0, 0, 18) && refused(bytes, 8));
 }
 
 /* What differs, with every dialect, of which bit 0 is the edition; then what is the same in both editions. */
@@ -378,6 +459,9 @@ static void check_dialects(const uint8_t *table, size_t table_len)
         check_evaluation(table, table_len);
         check_field(table, table_len);
         check_selection(table, table_len);
+        check_define(table, table_len);
+        check_longest_string();
+        check_most_macros();
     }
 }
 
@@ -400,10 +484,11 @@ static void check_meanings(void)
 {
     check("the first refusal", means(1, "the table of settings is malformed"));
     check("one of an expression", means(12, "zero divisor"));
-    check("the last refusal", means(26, "the buffer is shorter than the field"));
+    check("one of a field", means(26, "the buffer is shorter than the field"));
+    check("the last refusal", means(28, "DEFINE sets a string of more than 56 bytes"));
     check("no refusal", means(0, "no refusal"));
-    check("no number of a refusal", means(27, "unknown refusal") && means(255, "unknown refusal"));
-    check("a meaning for each number", differ(0, 27));
+    check("no number of a refusal", means(29, "unknown refusal") && means(255, "unknown refusal"));
+    check("a meaning for each number", differ(0, 29));
 }
 
 int main(void)

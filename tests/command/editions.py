@@ -41,7 +41,9 @@ def condition(choose, share):
 def group(choose, share, depth=0):
     """A group of directives with lines and groups in its branches."""
     def lines():
-        return group(choose, share, depth + 1) if depth < 3 and choose.random() < 0.5 else ["line %d" % choose.randint(0, 99)]
+        if depth < 3 and choose.random() < 0.5:
+            return group(choose, share, depth + 1)
+        return choose.choice([["line %d" % choose.randint(0, 99)], ["\tDEFINE FLAG = %s # 'a' == a" % condition(choose, share)]])
     name = choose.choice(["SPAR", "WEEK", "NOPE"])
     first = choose.choice(["!if %s" % condition(choose, share), "!ifdef %s", "!ifndef\t%s # why"])
     if "%s" in first:

@@ -41,7 +41,7 @@ def refusals():
     """The page's list of refusals is that of the command."""
     wanted = [(str(number), meaning) for number, meaning in meanings().items()]
     listed = re.findall(r"^\.TP\n\.B (\d+)\n(.*)$", section(page(), "REFUSALS"), re.MULTILINE)
-    yield "refusals of the command", len(wanted), 26
+    yield "refusals of the command", len(wanted), 28
     yield "refusals of the man page", listed, wanted
 
 

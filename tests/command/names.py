@@ -126,6 +126,48 @@ def refused_files():
         ["PCD a.b not set -: named in 1"], "-:1:5: refused (9): a PCD is not in the table", 1)
 
 
+DEFINED = b"""!ifndef CELLS
+DEFINE CELLS = $(WEEK) * 2
+!endif
+!if $(CELLS) > 4
+DEFINE BOARD = 'SPAR'
+!else
+DEFINE BOARD = $(OTHER)
+DEFINE LAMP = $(PATH)/Lamp.inf
+DEFINE
+!endif
+DEFINE CELLS = g.Cells + $(CELLS)
+!ifdef BOARD
+!endif
+"""
+
+
+def defined():
+    """A macro that DEFINE lines set has the lines that do, those that would if they were kept, and those that name it."""
+    wanted = ["macro BOARD by DEFINE a.dsc: set in 5; DEFINE not read 7; read 12",
+              "macro CELLS by DEFINE a.dsc: set in 2, 11; read 1, 4, 11",
+              "PCD Lamp.inf not set a.dsc: not read 8",
+              "macro LAMP not set a.dsc: DEFINE not read 8",
+              "macro OTHER not set a.dsc: not read 7",
+              "macro PATH not set a.dsc: not read 8",
+              "macro WEEK 3 a.dsc: read 2",
+              "PCD g.Cells 8 a.dsc: read 11"]
+    wanted.sort(key=lambda row: row.split()[1])
+    settings = ["-D", "WEEK=3", "-D", "g.Cells=8"]
+    yield "names that lines set", names(*settings, "a.dsc", files={"a.dsc": DEFINED}), (wanted, "", 0)
+    wanted = ["macro A 1 a.dsc: set in 1; read 2 | b.dsc: DEFINE not read 2; read 4", "macro B by DEFINE b.dsc: set in 5"]
+    files = {"a.dsc": b"DEFINE A = 'x'\n!ifdef A\n!endif\n", "b.dsc": b"!if 0\nDEFINE A = 2\n!endif\n!if $(A)\nDEFINE B = 7\n!endif\n"}
+    yield "names that lines of two files set", names("-D", "A", "a.dsc", "b.dsc", files=files), (wanted, "", 0)
+
+
+def defined_in_a_refused_file():
+    """Of a refused file it is not known which lines set anything; a DEFINE of another shape names nothing."""
+    text = b"DEFINE A = $(B)\n!if 1 / 0\nDEFINE A = 2\n!endif\nDEFINE $(C) = $(D)\n"
+    listed, errors, status = names("-", files={}, input=text)
+    wanted = ["macro A not set -: DEFINE in 1, 3", "macro B not set -: named in 1"]
+    yield "lines of a refused file", (listed, errors.splitlines()[0], status), (wanted, "-:2:7: refused (12): zero divisor", 1)
+
+
 def no_raw_bytes():
     """The listing shows nothing that a terminal would obey."""
     output, errors, status = answer([b"names", b"-D", b'A="\x1b[2J\xe9"', b"-"], input=b"!ifdef A\n!endif\n")
@@ -134,6 +176,6 @@ def no_raw_bytes():
 
 def checks():
     for part in (set_and_not_set, columns, order, skipped_operands, words_of_directives, no_expressions, several_files, undefined,
-                 refused_files, no_raw_bytes):
+                 refused_files, defined, defined_in_a_refused_file, no_raw_bytes):
         if chosen("names_" + part.__name__, "names"):
             yield from part()

@@ -181,6 +181,18 @@ def hidden_directives():
     yield "a byte order mark before a hidden directive", select(text), (text, [MARK], 0)
 
 
+def hidden_definitions():
+    """A DEFINE after something that looks like a blank is noted too; other words are not."""
+    for blank in (b"\x0c", b"\x0b", b"\x7f", b"\xff", b"\xc2\xa0", b"\xe2\x80\x8b", b"\xef\xbb\xbf"):
+        for rest in (b"DEFINE A = 1", b"\tDEFINE", b"DEFINE=1"):
+            text = b"a\n \t%s%s\n" % (blank, rest)
+            wanted = ["-:2:3: note: `DEFINE` sets nothing here: this byte before it is no blank and no tab"]
+            lines = [line for line in select(text)[1] if "byte order mark" not in line]
+            yield "%r after %r" % (rest, blank), lines, wanted
+    for text in (b"\x0cDEFINED A = 1\n", b"\x0cdefine A = 1\n", b"\x0c# DEFINE A = 1\n", b"\x0cEDK_GLOBAL A = 1\n"):
+        yield "nothing hidden in %r" % text, select(text), (text, [], 0)
+
+
 def quoted_macros():
     """A macro within quotes is noted where a read condition has it, once for each name."""
     tail = " is in quotes, so it is text and is not replaced"
@@ -206,6 +218,6 @@ def checks():
     for part in (similar_names, similar_names_of_files, several_similar_names, short_similar_names, similar_name_after_ifdef,
                  macro_after_ifdef, comment_after_ifdef, utf_16, utf_16_refused, utf_16_without_a_mark, one_wrong_byte,
                  all_wrong_bytes_of_a_refused_file, strict_with_one_note, strict_with_an_encoding, forms_of_definitions, many_unused,
-                 unused_of_files, hidden_directives, quoted_macros, file_names):
+                 unused_of_files, hidden_directives, hidden_definitions, quoted_macros, file_names):
         if chosen(part.__name__, "notes"):
             yield from part()

@@ -9,13 +9,13 @@ from tally import chosen
 
 ENCODING = "\ufeff# a\n".encode()
 # One note of each kind that a file can have, except UTF-16, which has no line of its own.
-KINDS = [("byte-order-mark", 1, 1, None), ("include", 2, 1, None), ("error", 3, 3, None), ("define", 4, 1, "WEEK"),
+KINDS = [("byte-order-mark", 1, 1, None), ("include", 2, 1, None), ("error", 3, 3, None), ("define-overrides", 4, 8, "SPAR"),
          ("unset-macro", 5, 5, "CELS"), ("unset-ifdef", 7, 8, "DEBUG"), ("bare-cr", 9, 2, None), ("nul", 10, 3, None),
          ("define", 11, 1, None), ("define", 12, 1, "LAMP"), ("hidden-directive", 13, 2, None), ("quoted-macro", 14, 6, "BOARD"),
-         ("bare-macro", 16, 16, "SPAR"), ("old-word", 16, 16, "SPAR"), ("old-ifdef", 18, 8, "SPAR")]
-EVERY_KIND = (ENCODING + b"!include x\n  !error y\nDEFINE WEEK = 3\n!if $(CELS)\n!endif\n!ifdef DEBUG\n!endif\nb\rc\nde\0\0f\n"
-              b"DEFINE X.Y = 2\nEDK_GLOBAL LAMP = 1\n \x0c!else\n!if '$(BOARD)' == 'SPAR'\n!endif\n!if $(SPAR) == SPAR\n!endif\n"
-              b"!ifdef $(SPAR)\n!endif\n")
+         ("bare-macro", 16, 16, "SPAR"), ("old-word", 16, 16, "SPAR"), ("old-ifdef", 18, 8, "SPAR"), ("hidden-define", 20, 1, None)]
+EVERY_KIND = (ENCODING + b"!include x\n  !error y\nDEFINE SPAR = 'x'\n!if $(CELS)\n!endif\n!ifdef DEBUG\n!endif\nb\rc\nde\0\0f\n"
+              b"EDK_GLOBAL X.Y = 2\nEDK_GLOBAL LAMP = 1\n \x0c!else\n!if '$(BOARD)' == 'SPAR'\n!endif\n!if $(SPAR) == SPAR\n!endif\n"
+              b"!ifdef $(SPAR)\n!endif\n\x0cDEFINE WEEK = 3\n")
 # With these options.
 NOTED = ["--warn-old", "-D", "SPAR=SPAR"]
 
@@ -72,6 +72,7 @@ DIVISOR_MESSAGE = b"bad.dsc:2:7: refused (12): zero divisor\n    !if 1 / 0\n    
 def select_answers():
     """A selection has its counts and marks."""
     for text, wanted in ((b"!if 1 + 1 == 2\na\n!else\nb\n!endif\n", file_of("a.dsc", 5, 1, 2, [4, 1, 3, 0, 5])),
+                         (b"DEFINE A = 1 + 1\n!if $(A) == 2\na\n!endif\n", file_of("a.dsc", 4, 2, 2, [6, 4, 1, 5])),
                          (b"a\n!if 0\n!if 1\n!endif\n!endif\nb", file_of("a.dsc", 6, 2, 0, [1, 3, 2, 2, 5, 1])),
                          (b"", file_of("a.dsc", 0, 0, 0, []))):
         got, errors, status = run("select", "a.dsc", files={"a.dsc": text})
@@ -101,6 +102,13 @@ def select_refusals():
             (b"  !if 2\n!endif\n", 2,
              refusal(13, "a condition has to be the number 0 or the number 1", 1, 3, 0,
                      "the value is the number 2; a comparison, as `(..) != 0`, gives 0 or 1")),
+            (b"  DEFINE A\n", 1, refusal(22, "the text after the line's word is not what it takes", 1, 3, 0,
+                                        "write `DEFINE NAME = expression`: no `=` follows A")),
+            (b" DEFINE A = 1 | 2\n", 1, refusal(8, "`|` or `||` stands outside parentheses", 1, 15, 14,
+                                               "put parentheses round the expression: `(1 | 2)`")),
+            (b" DEFINE A = '%s'\n" % (b"x" * 57), 1,
+             refusal(28, "DEFINE sets a string of more than 56 bytes", 1, 2, 0,
+                     "it has 57 bytes; if a condition uses A, shorten it; if not, move the line to a file that `!include` names")),
             (b"x" * 65_537, 1, refusal(14, "the file is longer than 65,536 bytes", 1, 1, 0, None))):
         got, errors, status = run("select", "bad.dsc", files={"bad.dsc": text})
         message = b"bad.dsc:%d:%d: refused (%d): %s\n" % (wanted["line"], wanted["column"], wanted["number"], wanted["meaning"].encode())
@@ -195,9 +203,10 @@ def listing(files, *names):
     return {"format": 1, "command": "names", "files": [{"file": file, "refusal": each} for file, each in files], "names": list(names)}
 
 
-def name_of(name, sort, value, *places):
+def name_of(name, sort, value, *places, defined=()):
     found = [{"file": file, "line": line, "column": column, "read": read} for file, line, column, read in places]
-    return {"name": name, "sort": sort, "value": value, "places": found}
+    lines = [{"file": file, "line": line, "column": column, "read": read, "value": set_to} for file, line, column, read, set_to in defined]
+    return {"name": name, "sort": sort, "value": value, "places": found, "defined": lines}
 
 
 def number(value):
@@ -231,6 +240,22 @@ def names_refusals():
     yield "names of a refused file", (in_order(got), errors, status), (in_order(wanted), DIVISOR_MESSAGE, 1)
 
 
+def names_defined():
+    """Of a line that sets a name there is the value that it sets, unless it is not read, or that is not known."""
+    text = b"DEFINE A = $(B) + 1\n!if 0\n\tDEFINE\tA\t=\t2\n!endif\n  DEFINE B = L'x'\nDEFINE A = $(A) + 1\n"
+    wanted = listing([("-", None)],
+                     name_of("A", "macro", None, ("-", 6, 12, True),
+                             defined=[("-", 1, 8, True, number(4)), ("-", 3, 9, False, None), ("-", 6, 8, True, number(5))]),
+                     name_of("B", "macro", number(3), ("-", 1, 12, True),
+                             defined=[("-", 5, 10, True, {"kind": "wide string", "text": "x"})]))
+    got, errors, status = run("names", "-D", "B=3", "-", input=text)
+    yield "names that lines set", (in_order(got), errors, status), (in_order(wanted), b"", 0)
+    wanted = listing([("bad.dsc", {**DIVISOR, "line": 3})], name_of("A", "macro", None, defined=[("bad.dsc", 1, 8, None, None)]))
+    got, errors, status = run("names", "bad.dsc", files={"bad.dsc": b"DEFINE A = 1\n" + DIVIDES})
+    message = DIVISOR_MESSAGE.replace(b":2:", b":3:")
+    yield "names that lines of a refused file set", (in_order(got), errors, status), (in_order(wanted), message, 1)
+
+
 def names_that_are_no_text():
     """Bytes of a value or of a file name that are no text are there in hexadecimal."""
     got, errors, status = run("names", "-D", b'A="lat\xe9"', b"b\xff.dsc", files={b"b\xff.dsc": b"!ifdef A\n!endif\n"})
@@ -243,7 +268,7 @@ def names_that_are_no_text():
 
 def checks():
     for part in (select_answers, select_several_files, select_refusals, select_notes, select_kinds_of_notes, select_notes_of_a_refused_file,
-                 select_strict, select_to_a_file, names_of_files, nothing_without_an_answer, names_answers, names_refusals,
+                 select_strict, select_to_a_file, names_of_files, nothing_without_an_answer, names_answers, names_refusals, names_defined,
                  names_that_are_no_text):
         if chosen("objects_" + part.__name__, "objects"):
             yield from part()

@@ -8,6 +8,7 @@ import sys
 sys.path.insert(0, os.path.join(os.path.dirname(os.path.abspath(__file__)), ".."))
 import cases
 import completion
+import defined
 import editions
 import json_output
 import manual
@@ -24,7 +25,8 @@ import writing
 from tally import check, choose, end
 
 choose(sys.argv[1:])
-PARTS = (cases, steps, writing, traced, notes, editions, output, several, names, options, json_output, objects, unseen, completion, manual)
+PARTS = (cases, steps, writing, traced, notes, defined, editions, output, several, names, options, json_output, objects, unseen, completion,
+         manual)
 for name, got, wanted in itertools.chain.from_iterable(part.checks() for part in PARTS):
     check("command, " + name, got, wanted)
 end()

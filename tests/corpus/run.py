@@ -35,9 +35,9 @@ def description_files(folder):
 def accepted(content, marks):
     """What is said of a file that is accepted; None where the marks are not those of its lines."""
     lines = content.count(b"\n") + (not content.endswith(b"\n") and content != b"")
-    if not re.fullmatch(rb"([0-5]\n){%d}" % lines, marks):
+    if not re.fullmatch(rb"([0-6]\n){%d}" % lines, marks):
         return None
-    return "accepted, %d lines kept of %d" % (marks.count(b"1"), lines)
+    return "accepted, %d lines kept of %d" % (marks.count(b"1") + marks.count(b"6"), lines)
 
 
 def refused(message):

@@ -30,12 +30,13 @@ LIMITS = {
         [(expression, lambda n: b" " * n, 7, 2), (expression, lambda n: b"+" * n, 7, 5), (expression, lambda n: b"(" * n, 7, 6)],
     ),
     "a file": (
-        r"([\d,]+) bytes, ([\d,]+) lines of ([\d,]+) bytes, ([\d,]+) groups deep",
+        r"([\d,]+) bytes, ([\d,]+) lines of ([\d,]+) bytes, ([\d,]+) groups deep, ([\d,]+) macros set",
         [
             (file, lines, 0, 14),
             (file, lambda n: b"\n" * n, 0, 15),
             (file, lambda n: b"x" * n, 0, 17),
             (file, lambda n: b"!if 0\n" * n + b"!endif\n" * n, 0, 20),
+            (file, lambda n: b"".join(b"DEFINE A%d = 1\n" % each for each in range(n)), 0, 27),
         ],
     ),
     "a table": (r"([\d,]+) records of 128 bytes", [(library.table, records, 0, 1)]),

@@ -14,16 +14,18 @@ WORDS = {
         ("{} '1'\n!endif", 13),
         ("!if 0\n{} 1\nx\n!endif\n!endif", "32025"),
     ],
-    ("a blank, then a macro as `NAME` or, in the old edition, `$(NAME)`", "the table has that name, whatever its value"): [
+    ("a blank, then a macro as `NAME` or, in the old edition, `$(NAME)`", "that macro is set, whatever its value"): [
         ("{} A\n!endif", "45"),
         ("{}\t$(A) # set\n!endif", "45"),
         ("{} B\n!endif", "35"),
+        ("{} B\n!endif\nDEFINE B = 0\n{} B\n!endif", "35645"),
         ("{}$(A)\n!endif", 22),
         ("{} g.A\n!endif", 22),
     ],
-    ("the same", "the table does not have it"): [
+    ("the same", "it is not set"): [
         ("{} A\n!endif", "35"),
         ("{}\t$(B)\n!endif", "45"),
+        ("DEFINE B = ''\n{} B\n!endif", "635"),
         ("{}$(B)\n!endif", 22),
         ("{} g.A\n!endif", 22),
     ],
@@ -51,6 +53,7 @@ MARKS = {
     "a directive that is read, and the branch after it is not taken": "!if 1\n!else\n!endif",
     "a directive that is read, and the branch after it is taken": "!if 0\n!else\n!endif",
     "an `!endif` that is read": "!if 0\n!endif",
+    "plain, and kept, and it sets a macro": "!if 1\nDEFINE B = 1\n!endif",
 }
 
 
@@ -65,6 +68,6 @@ def checks():
     words = {word for row in found for word in codes(row[0])}
     yield "words", words, {"!if", "!ifdef", "!ifndef", "!elseif", "!elif", "!else", "!endif", "!include", "!error"}
     found = rows("Lines and directives", "mark", "the line is")
-    yield "marks", [mark for mark, _ in found], list("012345")
+    yield "marks", [mark for mark, _ in found], list("0123456")
     for mark, told in found:
         yield told, marks(meaning(MARKS, told))[1], mark

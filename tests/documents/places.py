@@ -1,11 +1,12 @@
-"""The column 'where' in the table of refusals: its words mean what these expressions show, in a call by itself and in a directive."""
+"""The column 'where' in the table of refusals: its words mean what these expressions show, in a call by itself, in a directive and in a
+DEFINE line."""
 import library
 from manual import rows
 from refusals import HEADING
 
 NONE = "-"
 BAR = 8
-WORD = b"\t!elseif "
+WORD, DEFINE = b"\t!elseif ", b" DEFINE A\t="
 # Of each number that has a place: the words of its cell, and expressions in two parts, of which the second starts where the refusal is.
 # Each place differs from those that other words would mean.
 PLACED = {
@@ -79,6 +80,11 @@ def in_directive(expression):
     return library.select(b"!if 0\n" + WORD + expression + b"\r\n!endif\r\n", b"", 3)[:3]
 
 
+def in_define(expression):
+    """The same after a DEFINE."""
+    return library.select(b"x\n" + DEFINE + expression + b"\r\n", b"", 2)[:3]
+
+
 def checks():
     found = {int(row[0]): row[2] for row in rows("Refusals", *HEADING)}
     yield "where refusals are", found, {number: PLACED[number][0] if number in PLACED else NONE for number in found}
@@ -89,3 +95,4 @@ def checks():
             # No directive has 8.
             if refusal != BAR:
                 yield what + " after !elseif", in_directive(front + back), (refusal, 2, len(WORD + front))
+            yield what + " after DEFINE", in_define(front + back), (refusal, 2, len(DEFINE + front))

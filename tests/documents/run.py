@@ -1,12 +1,13 @@
 """Runs every example of the manual and the README, and holds the manual's tables against the product: run.py [NAME]... A name is an
-example's place, as `README.md:9`, a document, a section's heading, or a part (limits, tokens, precedence, kinds, values, lines, editions,
-records, fields, smallest, places, readings, refusals). What can be checked without the product is in tests/house. The last line says how
-many passed and how many failed."""
+example's place, as `README.md:9`, a document, a section's heading, or a part (limits, tokens, precedence, kinds, values, lines, defines,
+editions, records, fields, smallest, places, readings, refusals). What can be checked without the product is in tests/house. The last line
+says how many passed and how many failed."""
 import os
 import sys
 
 # The tally, the library's calls and the command's meanings are in the folder above.
 sys.path.insert(0, os.path.join(os.path.dirname(os.path.abspath(__file__)), ".."))
+import defines
 import editions
 import fields
 import kinds
@@ -25,7 +26,7 @@ from sessions import examples, run
 from tally import check, choose, chosen, end
 
 README = "README.md"
-PARTS = [limits, tokens, precedence, kinds, values, lines, editions, records, fields, smallest, places, readings]
+PARTS = [limits, tokens, precedence, kinds, values, lines, defines, editions, records, fields, smallest, places, readings]
 
 
 def check_examples(document):

@@ -1,6 +1,7 @@
 """The smallest inputs in the table of refusals: each is refused with the number and the offset of its row, and what is smaller is not."""
 import itertools
 import re
+import string
 
 import library
 from manual import MANUAL, codes, matched, meaning, number, rows
@@ -9,7 +10,7 @@ from refusals import HEADING
 
 NOTHING = "no byte at all"
 # The refusals of expressions and of files; all others have a way of their own.
-EXPRESSIONS, FILES = range(2, 13), {13, 14, 15, 17, 18, 19, 20, 21, 22}
+EXPRESSIONS, FILES = range(2, 13), {13, 14, 15, 17, 18, 19, 20, 21, 22, 27, 28}
 # Bytes of a field, and marks for any file of the table.
 ROOM, ENOUGH = 8, 5000
 # How a cell tells an input: in words, as code, or by counting. The input is made with one byte, line, token or group fewer on demand.
@@ -21,7 +22,15 @@ FORMS = {
     r"([\d,]+) times LF": lambda fewer, count: "\n" * (number(count) - fewer),
     r"([\d,]+) times `(.)`": lambda fewer, count, token: token * (number(count) - fewer),
     r"`([^`]*)` and ([\d,]+) times `([^`]*)`": lambda fewer, first, count, later: "\n".join([first] + [later] * (number(count) - fewer)),
+    r"([\d,]+) lines `([^`]*)`, each with another name": lambda fewer, count, line: "\n".join(renamed(line)[: number(count) - fewer]),
+    r"`([^`]*)` and a string of ([\d,]+) bytes": lambda fewer, front, count: "%s'%s'" % (front, "x" * (number(count) - fewer)),
 }
+
+
+def renamed(line):
+    """A line with each of the shortest names instead of its A."""
+    names = [first + second for second in ("", *string.ascii_uppercase) for first in string.ascii_uppercase]
+    return [re.sub(r"\bA\b", name, line) for name in names]
 
 
 def made(cell, fewer=0):

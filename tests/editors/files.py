@@ -21,6 +21,9 @@ FILES = {
     "too many lines": File("board.dsc", "\n" * 4097, 1, 1),
     "too many bytes": File("board.dsc", ("x" * 1000 + "\n") * 66, 1, 1),
     "a long line": File("board.dsc", "a\n" + "x" * 1025 + "\n", 2, 1),
+    "a path after DEFINE": File("Sea Buoy.dsc", "[Defines]\n  DEFINE LAMP = $(PKG)/Lamp.inf\n", 2, 24),
+    "a DEFINE of another shape": File("board.dsc", "!if 1\n   DEFINE Lamp = 1\n!endif\n", 2, 4),
+    "a long string after DEFINE": File("board.dsc", "a\n  DEFINE A = '%s'\n" % ("x" * 57), 2, 3),
 }
 
 # Accepted, with a note.
@@ -28,6 +31,7 @@ NOTED = {
     "a macro that is not set": File("board.dsc", "a\n  !if $(CELS) > 4\nb\n!endif\n", 2, 7),
     "a line that is not obeyed": File("silicon/Board 7.dsc", "a\n\n  !include b.inc\n", 3, 3),
     "a CR": File("board.dsc", "ab\rc\n", 1, 3),
+    "a macro of a DEFINE that is not set": File("board.dsc", "a\n  DEFINE A = 1 + $(CELS)\n", 2, 18),
 }
 
 # By default Emacs takes columns for those of the screen, where a tab ends at the next eighth, so it is at the end of the tab.

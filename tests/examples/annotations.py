@@ -72,6 +72,13 @@ def real(folder):
     yield "a note", shown[1:], ["::warning file=cells.dsc,line=1,col=5::$(CELS) is not set, so it is the number 0"]
     printed, said, status = run(["korzhinay", "select", "--json", "-D", "CELS=8", "cells.dsc"], folder, folder)
     yield "nothing to say", (annotated(printed.encode(), folder), said, status), (([], 0), "", 0)
+    write(folder, "define.dsc", "DEFINE CELLS = 8\n")
+    write(folder, "shape.dsc", "x\n DEFINE cells = 8\n")
+    printed, said, status = run(["korzhinay", "select", "--json", "-D", "CELLS=4", "define.dsc", "shape.dsc"], folder, folder)
+    shown, status = annotated(printed.encode(), folder)
+    wanted = ["::warning file=define.dsc,line=1,col=8::`DEFINE` overrides the setting of CELLS (-D CELLS=4)",
+              "::error file=shape.dsc,line=2,col=2::refused (22): the text after the line's word is not what it takes%0Awrite `DEFINE NAME"]
+    yield "DEFINE lines", ([line.split(": here")[0].split(" = expression")[0] for line in shown], status), (wanted, 1)
     printed, said, status = run(["korzhinay", "select", "--json", "absent.dsc"], folder, folder)
     yield "a file that is not there", (annotated(printed.encode(), folder), status), (([], 2), 2)
 

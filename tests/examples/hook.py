@@ -131,6 +131,16 @@ def notes():
         yield "no note, strictly", made.hook(), ([], 0)
 
 
+def defined():
+    """DEFINE lines are obeyed: a path after one is refused, and one that overrides a setting has a note."""
+    with repository({"cells.dsc": "DEFINE CELLS = 8\n!if $(CELLS) > 4\nx\n!endif\n", "path.fdf": "x\n  DEFINE LAMP = Lamp/Lamp.inf\n"}) as made:
+        yield "a path", made.hook(), (["path.fdf:2:17: refused (3)"], 1)
+        made.stage({"path.fdf": "!include Paths.inc\n", "cells.settings": "CELLS = 4\n"})
+        yield "an included path", made.hook(), (["path.fdf:1:1: note"], 0)
+        made.git("config", "korzhinay.settings", "cells.settings")
+        yield "a setting that is overridden", made.hook(), (["cells.dsc:1:8: note", "path.fdf:1:1: note"], 0)
+
+
 def editions():
     """The edition is that of git's configuration, and old without one."""
     with repository({"old.dsc": OLD}) as made:
@@ -141,5 +151,5 @@ def editions():
 
 
 def checks():
-    for part in commits, files, staged, settings, notes, editions:
+    for part in commits, files, staged, settings, notes, defined, editions:
         yield from part()

@@ -8,6 +8,8 @@ RULES = os.path.join(EXAMPLES, "rules.mk")
 DESCRIPTION = '!if $(BOARD) == "SPAR"\nspar\n!else\nother\n!endif\n'
 # It is refused for a board without cells.
 CELLS = DESCRIPTION + "!if 12 / $(CELLS) > 2\ncells\n!endif\n"
+# A default, and what is kept for each number of cells.
+DEFAULT = "!ifndef CELLS\nDEFINE CELLS = 8\n!endif\n" + "".join("!if $(CELLS) == %d\n%d\n!endif\n" % (each, each) for each in (4, 6, 8))
 SPAR = "BOARD = SPAR\nCELLS = 4\n"
 DRIFTER = "BOARD = DRIFTER\nCELLS = 0\n"
 
@@ -57,6 +59,14 @@ def checks():
         boards.change(DESCRIPTION.replace('"', ""))
         yield "old spellings, noted", boards.make("--keep-going", "NOTES=--warn-old --strict"), (2, ["Buoy.dsc:1:17: note"] * 2, 2)
         yield "old spellings, refused", boards.make("--keep-going", "EDITION=new"), (2, ["Buoy.dsc:1:17: refused (3)"] * 2, 2)
+        boards.change(DEFAULT)
+        yield "a default that the boards set", boards.make("NOTES=--quiet"), (2, [], 0)
+        yield "by their settings", boards.outputs(), {"drifter.dsc": "6\n", "spar.dsc": "4\n"}
+        boards.change(DEFAULT.split("\n", 1)[1].replace("!endif\n", "", 1))
+        yield "a DEFINE that overrides them", boards.make("NOTES=--quiet"), (2, [], 0)
+        yield "by the file", boards.outputs(), dict.fromkeys(["drifter.dsc", "spar.dsc"], "DEFINE CELLS = 8\n8\n")
+        boards.change(DEFAULT.split("\n", 1)[1].replace("!endif\n", "", 1))
+        yield "a DEFINE, strictly", boards.make("--keep-going", "NOTES=--strict"), (2, ["Buoy.dsc:1:8: note"] * 2, 2)
         boards.change("!if $(CELS) > 4\nx\n!endif\n")
         yield "a note, strictly", boards.make("--keep-going", "NOTES=--strict"), (2, ["Buoy.dsc:1:5: note"] * 2, 2)
         yield "nothing is left", boards.outputs(), {}

@@ -10,6 +10,8 @@ FILES = {
     "kept.dsc": b"a\n!if $(WEEK) == 0\r\nb\r\n!else\nc\n!endif\nd",
     "empty.dsc": b"",
     "old.dsc": b"!ifdef $(WEEK)\n!else\na\n!endif\n!if 'a' == a\nb\n!endif\n",
+    "define.dsc": b"DEFINE WEEK = 3\n!if $(WEEK) == 3\na\n!else\nDEFINE WEEK\n!endif\n  DEFINE LAST = 1",
+    "define-wrong.dsc": b"a\nDEFINE WEEK\n",
     "divisor.dsc": b"a\n  !if 1 / 0\n!endif\n",
     "word.dsc": b"a\n!iff 1\n",
     "longest.dsc": LINE * 1024,

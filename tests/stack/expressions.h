@@ -5,10 +5,10 @@
 #include <stddef.h>
 #include <stdint.h>
 
-/* The limits of an expression; of bytes as many as a line has left after `!elseif `. */
+/* The limits of an expression; of bytes as many as a line has left after `DEFINE X=`. */
 #define MOST_TOKENS 200
 #define MOST_PARENTHESES 16
-#define MOST_BYTES 1016
+#define MOST_BYTES 1015
 
 struct unit {
     const char *open, *close;
@@ -25,7 +25,7 @@ enum {
     FIRST_RUNG = FIRST_UNARY + 6, /* one operator of each level, from the loosest to the tightest */
     EQUAL = FIRST_RUNG + 6,       /* `1==`, after which an operand may be a bare word */
     FIRST_OTHER = FIRST_RUNG + 11, /* all other spellings of binary operators, and other operands, with bare words among them */
-    UNITS = FIRST_OTHER + 36
+    UNITS = FIRST_OTHER + 37
 };
 
 extern const struct unit units[UNITS];
@@ -36,7 +36,7 @@ struct operand {
     int tokens;
 };
 
-#define OPERANDS 21
+#define OPERANDS 22
 extern const struct operand operands[OPERANDS];
 
 struct expression {

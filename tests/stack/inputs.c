@@ -5,6 +5,7 @@
 #define RECORD 128
 #define RECORDS 512
 #define GROUPS 16
+#define DEFINED 64
 
 struct bytes {
     const uint8_t *start;
@@ -14,6 +15,9 @@ struct bytes {
 /* One record more than a table may have. */
 static uint8_t full[(RECORDS + 1) * RECORD], one[RECORD];
 static struct bytes tables[3];
+
+/* A string of 56 bytes, the most that a record has, and a DEFINE line sets. */
+static const char longest[] = "a string of fifty-six bytes, the most that a record has.";
 
 static void record(uint8_t *at, const char *name, uint8_t kind, const char *content, uint8_t length)
 {
@@ -25,7 +29,6 @@ static void record(uint8_t *at, const char *name, uint8_t kind, const char *cont
 
 void make_tables(void)
 {
-    static const char longest[] = "a string of fifty-six bytes, the most that a record has.";
     static const char number[8] = {1};
     record(one, "X", KORZHINAY_KIND_NUMBER, number, 8);
     for (int i = 0; i <= RECORDS; i++) {
@@ -64,24 +67,42 @@ static void append_text(struct file *file, const char *text, int times)
     append(file, text, strlen(text), times);
 }
 
-/* 16 open groups, the expression in the innermost. */
-static void write_file(struct file *file, const char *before, const struct expression *e)
+/* DEFINE lines that set as many macros as they can, to strings of 56 bytes: most have names of 64 bytes; the last ones are those that
+ * expressions have, S and X, which is the number 1. */
+static void append_macros(struct file *file)
+{
+    char line[160];
+    for (int i = 0; i < DEFINED - 2; i++) {
+        sprintf(line, "DEFINE N%063d = %s'%s'\n", i, i % 2 ? "L" : "", longest);
+        append_text(file, line, 1);
+    }
+    sprintf(line, "DEFINE S='%s'\nDEFINE X=1\n", longest);
+    append_text(file, line, 1);
+}
+
+/* So many open groups, with macros set in the innermost or not, and then the expression, after these texts; `more` groups are opened by
+ * them. */
+static void write_file(struct file *file, int macros, const char *before, int more, const struct expression *e)
 {
     file->length = 0;
     append_text(file, "!if 1\n", GROUPS - 1);
+    if (macros)
+        append_macros(file);
     append_text(file, before, 1);
     append(file, e->text, e->length, 1);
     append_text(file, "\nplain\n", 1);
-    append_text(file, "!endif\n", GROUPS);
+    append_text(file, "!endif\n", GROUPS - 1 + more);
 }
 
 size_t calls_on(const struct expression *e, struct call calls[MOST_CALLS])
 {
-    static struct file first, later;
+    static struct file first, later, tested, set;
     const uint8_t *text = (const uint8_t *)e->text;
     size_t count = 0;
-    write_file(&first, "!if ", e);
-    write_file(&later, "!if 0\n!elseif ", e);
+    write_file(&first, 0, "!if ", 1, e);
+    write_file(&later, 0, "!if 0\n!elseif ", 1, e);
+    write_file(&tested, 1, "!if ", 1, e);
+    write_file(&set, 1, "DEFINE X=", 0, e);
     for (uint8_t edition = KORZHINAY_EDITION_NEW; edition <= KORZHINAY_EDITION_OLD; edition++) {
         calls[count++] = (struct call){CALL_TOKENS, 0, edition, text, e->length, NULL, 0};
         for (const struct bytes *t = tables; t < tables + 3; t++) {
@@ -91,6 +112,10 @@ size_t calls_on(const struct expression *e, struct call calls[MOST_CALLS])
             calls[count++] = (struct call){CALL_SELECT, 0, edition, first.bytes, first.length, t->start, t->length};
             calls[count++] = (struct call){CALL_SELECT, 0, edition, later.bytes, later.length, t->start, t->length};
         }
+        for (const struct bytes *t = tables; t < tables + 3; t += 2) {
+            calls[count++] = (struct call){CALL_SELECT, 0, edition, tested.bytes, tested.length, t->start, t->length};
+            calls[count++] = (struct call){CALL_SELECT, 0, edition, set.bytes, set.length, t->start, t->length};
+        }
     }
     return count;
 }
@@ -98,7 +123,7 @@ size_t calls_on(const struct expression *e, struct call calls[MOST_CALLS])
 struct call file_of(const struct expression *e)
 {
     static struct file file;
-    write_file(&file, "!if ", e);
+    write_file(&file, 0, "!if ", 1, e);
     return (struct call){CALL_SELECT, 0, KORZHINAY_EDITION_OLD, file.bytes, file.length, NULL, 0};
 }
 
@@ -136,18 +161,50 @@ static void file_calls(const char *text, int times, const char *last, take_calls
     take("files", calls, 6);
 }
 
+struct call all_macros(const char *last)
+{
+    static struct file file;
+    file.length = 0;
+    append_macros(&file);
+    for (int i = 0; i < DEFINED - 2; i++) {
+        char lines[160];
+        sprintf(lines, "!if $(N%063d) == %s'%s'\n!endif\n", i, i % 2 ? "L" : "", longest);
+        append_text(&file, lines, 1);
+    }
+    append_text(&file, last, 1);
+    return (struct call){CALL_SELECT, 0, KORZHINAY_EDITION_OLD, file.bytes, file.length, NULL, 0};
+}
+
+static void macro_calls(const char *last, take_calls *take)
+{
+    struct call calls[6];
+    for (int i = 0; i < 6; i++) {
+        calls[i] = all_macros(last);
+        calls[i].dialect = (uint8_t)(i % 2);
+        calls[i].table = tables[i / 2].start;
+        calls[i].table_len = tables[i / 2].length;
+    }
+    take("files with as many macros as there can be", calls, 6);
+}
+
 void each_other(take_calls *take)
 {
     static const char *const texts[] = {
         "\n", "plain\n", "!if $(X) == 1\r\n!elseif g.N\n!else\n!endif # c\n", "!ifdef X\n!ifndef $(NO)\n!endif\n!endif\n",
-        "!include a\n!error b\n", "!if 'a' == b\n!elif 'a' EQ a\n!endif\n",
+        "!include a\n!error b\n", "!if 'a' == b\n!elif 'a' EQ a\n!endif\n", "DEFINE A=$(A)+1\n", "DEFINE X='x'\n!if $(X)=='x'\n!endif\n",
     };
-    static const int times[] = {4095, 4095, 1000, 1000, 2000, 1300};
+    static const int times[] = {4095, 4095, 1000, 1000, 2000, 1300, 4093, 1300};
     static const char *const ends[] = {
         "", "x", "!if 0\n", "!else", "!iff", "!if 2", "!if 'a'", "!if(1)", "!ifdef a.b", "!if 1/0", "!if @", "!if 1\n!else\n!elif 1\n",
-        "!if 1 == a", "!if 'a' == a.", "!ifdef $(X)\n!endif\n", "!ifndef $(a)",
+        "!if 1 == a", "!if 'a' == a.", "!ifdef $(X)\n!endif\n", "!ifndef $(a)", "DEFINE", "DEFINE A = 1 |", "DEFINE A = g.W", "DEFINE A=''",
+    };
+    static const char *const last[] = {
+        "", "DEFINE X = $(S)\n!if $(X) == $(S)\n!endif\n", "!ifdef X\n!endif\n!ifdef Y\n!endif\n", "DEFINE X = @", "DEFINE X = $(S) + 1",
+        "DEFINE Y = 1", "DEFINE S = 'a string of fifty-seven bytes, one more than a record has'",
     };
     table_calls(take);
+    for (size_t i = 0; i < sizeof last / sizeof last[0]; i++)
+        macro_calls(last[i], take);
     for (size_t i = 0; i < sizeof texts / sizeof texts[0]; i++)
         for (size_t j = 0; j < sizeof ends / sizeof ends[0]; j++)
             file_calls(texts[i], times[i], ends[j], take);

@@ -8,7 +8,7 @@
 #include <string.h>
 
 /* The most that any input may be seen to use. */
-#define MOST_SEEN 24576
+#define MOST_SEEN 33792
 /* The header names at least so many hundredths of what was seen. */
 #define MARGIN 125
 
@@ -36,13 +36,16 @@ static void print_bytes(const uint8_t *bytes, size_t length)
     putchar('\n');
 }
 
-/* Files of thousands of lines are told by their shape alone; a file with one expression is shorter. */
-#define LONGEST 2000
+/* So many bytes of an input are shown, from its end: a file with one expression has it there. */
+#define SHOWN 2000
 
 static void print_call(const char *shape, const struct call *call)
 {
+    size_t left_out = call->length > SHOWN ? call->length - SHOWN : 0;
     printf("  %s, %s, a table of %zu bytes, dialect %d:\n    ", name_of(call->which), shape, call->table_len, call->dialect);
-    print_bytes(call->text, call->length <= LONGEST ? call->length : 0);
+    if (left_out > 0)
+        printf("(%zu bytes) ", left_out);
+    print_bytes(call->text + left_out, call->length - left_out);
 }
 
 /* Only the first few failures are told in full: a library with one fault fails on nearly every input. */
@@ -78,7 +81,7 @@ static struct {
     size_t used;
     struct call call;
     const char *shape;
-    uint8_t text[LONGEST];
+    uint8_t text[KORZHINAY_MAX_FILE_BYTES + 1];
 } deepest[CALLS];
 
 static long measured;
@@ -93,7 +96,7 @@ static size_t measure(const char *shape, const struct call *call)
         deepest[call->which].call = *call;
         deepest[call->which].shape = shape;
         /* The text itself does not stay. */
-        if (call->text != NULL && call->length <= sizeof deepest[0].text)
+        if (call->length > 0)
             memcpy(deepest[call->which].text, call->text, call->length);
         deepest[call->which].call.text = deepest[call->which].text;
     }
@@ -140,6 +143,25 @@ static void check_the_test(void)
     check(in_thread(&does_not, 1, KORZHINAY_STACK) == DIED, "a thread has no more stack than it is to have");
 }
 
+/* The macros of the files are set: otherwise all of these would be refused, and show nothing. */
+static void check_the_macros(void)
+{
+    static struct answer answer;
+    struct call call = all_macros("DEFINE X = 2");
+    perform(&call, &answer);
+    check(answer.refusal == 0, "as many macros as there can be");
+    size_t set = 0, taken = 0;
+    for (size_t i = 0; i < sizeof answer.marks; i++) {
+        set += answer.marks[i] == KORZHINAY_MARK_DEFINE;
+        taken += answer.marks[i] == KORZHINAY_MARK_TAKEN;
+    }
+    check(set == KORZHINAY_MAX_DEFINED + 1, "each of them is set, and one again");
+    check(taken == KORZHINAY_MAX_DEFINED - 2, "those with long names have the values that they were set to");
+    call = all_macros("DEFINE Y = 2");
+    perform(&call, &answer);
+    check(answer.refusal == KORZHINAY_REFUSAL_DEFINED_MANY, "and there can be no more");
+}
+
 static void report(void)
 {
     size_t most = CALL_TABLE;
@@ -151,7 +173,7 @@ static void report(void)
     printf("search alone found   %5zu bytes\n", deepest_found);
     printf("the deepest of %ld calls used %zu bytes of stack; the header names %d\n", measured, deepest[most].used, KORZHINAY_STACK);
     print_call(deepest[most].shape, &deepest[most].call);
-    check(deepest[most].used <= MOST_SEEN, "no call is seen to use more than 24,576 bytes");
+    check(deepest[most].used <= MOST_SEEN, "no call is seen to use more than 33,792 bytes");
     check(deepest[most].used * MARGIN <= (size_t)KORZHINAY_STACK * 100, "the header names at least 1.25 times what was seen");
 }
 
@@ -166,6 +188,7 @@ int main(void)
     each_other(measure_all);
     each_soup(measure_on);
     search(depth, both_on);
+    check_the_macros();
     report();
     printf("%d passed, %d failed\n", passed, failed);
     return failed != 0;

@@ -12,6 +12,7 @@ BAD_TOKEN, MALFORMED_TEXT = 3, 22
 # All dialects, of which bit 0 is the edition and the other bits are ignored; and inputs of every call that are tried in all of them (R47).
 DIALECTS = range(256)
 TRIED_IN_ALL = [b'"a" == a', b"'a' == 'a'", b"!ifdef $(A)\n!endif", b'!if "a" == a\n!endif', b"!ifndef A\n!endif"]
+TRIED_IN_ALL += [b'DEFINE A = "a" == a\n!if $(A)\n!endif', b"DEFINE A = 1\n!ifdef $(A)\nx\n!endif", b"DEFINE A = 1\n!if $(A)\nx\n!endif"]
 
 
 @dataclasses.dataclass(frozen=True)

@@ -36,9 +36,9 @@ WITH_TABLE = [
     (b"!if $(A)|!if $(B)|!if $(C)|x|!endif|!endif|!endif", numbers(A=1, B=1, C=1), ("4441555", 0)),
     (b"!if $(A)|!if $(B)|!if $(C)|x|!endif|!endif|!endif", numbers(A=1, B=0, C=1), ("4320255", 0)),
     (b"!if $(A)|!if $(B)|!if $(C)|x|!endif|!endif|!endif", numbers(A=0, B=9, C=9), ("3220225", 0)),
-    # plain lines are not read: what looks like a definition sets nothing
-    (b"DEFINE A = 1|!if $(A)|x|!endif", b"", ("1305", 0)),
-    (b"DEFINE A = 1|!ifdef A|x|!endif", b"", ("1305", 0)),
+    # plain lines are not read, except DEFINE lines, which are in define_lines.py: what looks like a definition sets nothing
+    (b"A = 1|!if $(A)|x|!endif", b"", ("1305", 0)),
+    (b"EDK_GLOBAL A = 1|!ifdef A|x|!endif", b"", ("1305", 0)),
 ]
 
 TAKEN = [

@@ -69,7 +69,7 @@ VECTORS = [
     (b"#!if 1\n", ("1", 0)),
     (b"\"!if 1\"\n", ("1", 0)),
     (b"if 1\nendif\nelse", ("111", 0)),
-    (b"[Defines]\n  DEFINE FOO = 2\n", ("11", 0)),
+    (b"[Defines]\n  FOO = 2\n", ("11", 0)),
     (b"$(FOO) == 2\n", ("1", 0)),
     (b"@ ' \" ( 1 / 0\n", ("1", 0)),
     # include and error, whatever follows the word

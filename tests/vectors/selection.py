@@ -3,6 +3,8 @@
 """
 import arguments
 import bars
+import define_expressions
+import define_lines
 import edition_files
 import groups
 import limits
@@ -23,6 +25,7 @@ WHOLE = (
     + limits.VECTORS
     + [(file, TABLE, wanted) for file, wanted in placed_lines.VECTORS]
     + edition_files.VECTORS
+    + define_lines.VECTORS
 )
 
 
@@ -53,5 +56,6 @@ def rooms(file, table, wanted):
 
 VECTORS = [each for vector in WHOLE for each in rooms(*vector)]
 VECTORS += [
-    (file, table, line_count(file), mapped(answer, wanted)) for file, table, wanted in offsets.SELECTIONS + edition_files.CONDITIONS
+    (file, table, line_count(file), mapped(answer, wanted))
+    for file, table, wanted in offsets.SELECTIONS + edition_files.CONDITIONS + define_expressions.VECTORS
 ]

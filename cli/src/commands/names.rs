@@ -15,8 +15,8 @@ pub static NAMES: Subcommand = Subcommand {
     name: "names",
     usage: "[-D NAME[=VALUE]].. [-U NAME].. [-s SETTINGS].. [-t TABLE] [--edition old|new] [--json] FILE..",
     summary: "the macros and PCDs that description files name",
-    about: "Lists every macro and every PCD that the directives of the files name, read or not: its value, or that it is not set, and the
-lines that name it. FILE - is standard input.",
+    about: "Lists every macro and every PCD that the directives and DEFINE lines of the files name, read or not, and every macro that DEFINE
+lines set: its value, or that it is not set, and the lines that set it and name it. FILE - is standard input.",
     example: r"printf '!if $(WEEK) LE 5\n  Watchdog.inf\n!endif\n' | korzhinay names -D WEEK=3 -",
     options: &["--define", "--undefine", "--settings", "--table", "--edition", "--json", "--help"],
     operand: Operand::Files,
@@ -31,7 +31,7 @@ fn run(request: &Request) -> Result<(), Error> {
         edition,
     };
     let files = Examined::all(request.operands(), terms)?;
-    let index = Index::new(&files);
+    let index = Index::new(&files, terms);
     let answer = match request.has("--json") {
         true => object(NAMES.name, shown::members(&index, &files, &table)),
         false => shown::rows(&index, &files, &table).into_bytes(),

@@ -34,7 +34,7 @@ pub static OPTIONS: [OptionSpec; 16] = [
         value: "NAME[=VALUE]",
         completion: Nothing,
         about: "sets NAME, over -s and -t; to 1 without a VALUE",
-        manual: "A setting, as described below. NAME alone sets 1. May be repeated.",
+        manual: "A setting, as described below. NAME alone sets 1. A DEFINE line of a file wins over it. May be repeated.",
     },
     OptionSpec {
         long: "--undefine",
@@ -43,8 +43,8 @@ pub static OPTIONS: [OptionSpec; 16] = [
         completion: Nothing,
         about: "leaves NAME unset, and says that it is meant to be",
         manual: "Leaves the macro or the PCD of this name unset, whatever set it before; it need not be set. It also says that \
-                 the name is meant to be unset, so no note is given for it. A later -D of the same name sets it again. May be \
-                 repeated.",
+                 the name is meant to be unset, so no note is given for it. A later -D of the same name sets it again, and a DEFINE \
+                 line of a file does. May be repeated.",
     },
     OptionSpec {
         long: "--settings",

@@ -18,7 +18,8 @@ pub static SELECT: Subcommand = Subcommand {
             [--annotate | --marks | --keep-lines | --json] [--warn-old] [--quiet | --strict] [-o OUT] FILE..",
     summary: "the lines of description files that are kept",
     about: "Prints the lines of description files that are kept, byte for byte. FILE - is standard input.
-Marks: 0 a dropped line, 1 a kept one; of directives 2 not read, 3 branch not taken, 4 branch taken, 5 a read !endif.
+A kept line DEFINE NAME = EXPRESSION sets a macro for the lines below it, over -D, -s and -t.
+Marks: 0 a dropped line, 1 a kept one, 6 a kept DEFINE; of directives 2 not read, 3 branch not taken, 4 branch taken, 5 a read !endif.
 On a terminal --annotate dims the marks 0 and 2, unless NO_COLOR is set.
 Notes on standard error name what may be a slip: macros that are not set, settings that nothing uses, lines that are not obeyed.",
     example: r"printf '!if $(WEEK) LE 5\n  Watchdog.inf\n!endif\n' | korzhinay select -D WEEK=3 --annotate -",

@@ -1,6 +1,7 @@
 //! Bare words, which only the old edition reads.
 
-use super::directive::{condition, first_byte};
+use super::directive::first_byte;
+use super::expression::expression_of_line;
 use crate::library::{self, token, Edition};
 
 /// A bare word and its offset.
@@ -29,9 +30,10 @@ fn may_have_some(expression: &[u8]) -> bool {
     })
 }
 
-/// The bare words of a directive, with their offsets in the line.
+/// The bare words of a line's expression, with their offsets in the line.
 pub fn bare_words_of_line(line: &[u8]) -> Vec<Found<'_>> {
-    let Some((at, argument)) = condition(line).filter(|(_, text)| may_have_some(text)) else {
+    let Some((at, argument)) = expression_of_line(line).filter(|(_, text)| may_have_some(text))
+    else {
         return Vec::new();
     };
     let mut words = bare_words(argument);

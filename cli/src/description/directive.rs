@@ -15,13 +15,6 @@ pub fn first_byte(line: &[u8]) -> usize {
     found.unwrap_or(0)
 }
 
-/// The expression of a line that is a directive with one, and its offset.
-pub fn condition(line: &[u8]) -> Option<(usize, &[u8])> {
-    let found = directive(line)?;
-    let is_condition = matches!(found.word, b"if" | b"elseif" | b"elif");
-    is_condition.then(|| (found.text, &line[found.text..]))
-}
-
 /// The directive of a line; one whose word is unknown is one here.
 pub fn directive(line: &[u8]) -> Option<Directive<'_>> {
     let start = first_byte(line) + 1;

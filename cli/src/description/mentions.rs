@@ -1,10 +1,11 @@
-//! The macros and PCDs that a directive names.
+//! The macros and PCDs that a line names.
 
 use super::directive::{directive, first_byte};
+use super::expression::expression_of_line;
 use super::runs::split_run;
 use crate::library::{self, refusal, single_token, token, Edition, Refusal, Token};
 
-/// A macro or a PCD in a directive.
+/// A macro or a PCD in a directive, or in the expression of a `DEFINE`.
 pub struct Mention<'a> {
     pub sort: Sort,
     pub name: &'a [u8],
@@ -12,7 +13,7 @@ pub struct Mention<'a> {
     pub text: &'a [u8],
     /// Where that starts in the line.
     pub offset: usize,
-    /// The directive's word.
+    /// The directive's word, or `DEFINE`.
     pub word: &'a [u8],
 }
 
@@ -31,24 +32,24 @@ impl Sort {
     }
 }
 
-/// What a line names if it is a directive: those tokens of its expression, or the macro of its `!ifdef`, with or without `$(` and `)`. It
-/// is the same in both editions: a bare word, which is no token in the new one, is passed over in both.
+/// What a line names: those tokens of its expression, or the macro of its `!ifdef`, with or without `$(` and `)`. It is the same in both
+/// editions: a bare word, which is no token in the new one, is passed over in both. The macro that a `DEFINE` sets is not named by it.
 pub fn mentions(line: &[u8]) -> Vec<Mention<'_>> {
-    let Some(found) = directive(line) else {
-        return Vec::new();
+    let (word, text) = match directive(line) {
+        Some(found) => (found.word, found.text),
+        None => (b"DEFINE".as_slice(), 0),
     };
-    let argument = &line[found.text..];
-    let named = match found.word {
-        b"if" | b"elseif" | b"elif" => in_expression(argument),
-        b"ifdef" | b"ifndef" => Vec::from_iter(after_ifdef(argument)),
-        _ => Vec::new(),
+    let (at, named) = match (expression_of_line(line), word) {
+        (Some((at, expression)), _) => (at, in_expression(expression)),
+        (None, b"ifdef" | b"ifndef") => (text, Vec::from_iter(after_ifdef(&line[text..]))),
+        _ => return Vec::new(),
     };
     let mention = |(sort, name, start, len)| Mention {
         sort,
         name,
-        text: &argument[start..][..len],
-        offset: found.text + start,
-        word: found.word,
+        text: &line[at + start..][..len],
+        offset: at + start,
+        word,
     };
     named.into_iter().map(mention).collect()
 }

@@ -7,11 +7,8 @@ use super::runs::split_run;
 pub enum Plain<'a> {
     Include,
     Error,
-    /// `DEFINE` or `EDK_GLOBAL`, with the macro's name, if there is one.
-    Define {
-        word: &'static str,
-        name: Option<&'a [u8]>,
-    },
+    /// `EDK_GLOBAL`, with the macro's name, if there is one.
+    Global(Option<&'a [u8]>),
 }
 
 /// What a plain line would do.
@@ -24,13 +21,10 @@ pub fn plain(line: &[u8]) -> Option<Plain<'_>> {
         };
     }
     let (first, rest) = split_run(&line[first_byte(line)..]);
-    let word = match first {
-        b"DEFINE" => "DEFINE",
-        b"EDK_GLOBAL" => "EDK_GLOBAL",
-        _ => return None,
-    };
+    if first != b"EDK_GLOBAL" {
+        return None;
+    }
     let (name, after) = split_run(&rest[first_byte(rest)..]);
     let is_name = matches!(after, [] | [b' ' | b'\t' | b'=', ..]) && is_macro_name(name);
-    let name = is_name.then_some(name);
-    Some(Plain::Define { word, name })
+    Some(Plain::Global(is_name.then_some(name)))
 }

@@ -1,15 +1,15 @@
 //! Macros in quotes, which EDK II's build tools replace and the rules do not.
 
-use super::directive::condition;
+use super::expression::expression_of_line;
 use super::mentions::is_macro_name;
 use crate::library::{self, token, Edition};
 
-/// The names in the strings of a directive's expression, each with the offset of its `$(` in the line. The directive is accepted, so its
-/// tokens are those of the old edition in any case.
+/// The names in the strings of a line's expression, each with the offset of its `$(` in the line. The line is accepted, so its tokens are
+/// those of the old edition in any case.
 pub fn quoted_macros(line: &[u8]) -> Vec<(usize, &[u8])> {
     let mut names = Vec::new();
     let has_quotes = |text: &[u8]| text.iter().any(|byte| matches!(byte, b'"' | b'\''));
-    let Some((at, argument)) = condition(line).filter(|(_, text)| has_quotes(text)) else {
+    let Some((at, argument)) = expression_of_line(line).filter(|(_, text)| has_quotes(text)) else {
         return names;
     };
     for token in library::tokens(argument, Edition::Old).read {

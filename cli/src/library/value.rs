@@ -1,6 +1,7 @@
 //! The values of expressions and settings.
 
 /// A value; a string's bytes are those of the expression or the table.
+#[derive(PartialEq)]
 pub enum Value<'a> {
     Number(u64),
     String(&'a [u8]),

@@ -2,20 +2,20 @@
 
 use std::collections::HashSet;
 
+use super::known::Known;
 use super::note::Note;
 use crate::description::bare_words_of_line;
 use crate::examined::Examined;
-use crate::library::lookup;
-use crate::settings::Settings;
 use crate::terminal::escaped;
 
-/// One note for each such name in these read directives, at its first place.
-pub fn notes(file: &Examined, read: &[(usize, &[u8])], settings: &Settings) -> Vec<Note> {
+/// One note for each such name in these read lines, at its first place where it is set.
+pub fn notes(file: &Examined, read: &[(usize, &[u8])], known: &Known) -> Vec<Note> {
     let mut seen = HashSet::new();
     let mut notes = Vec::new();
     for &(line, text) in read {
         for (offset, word) in bare_words_of_line(text) {
-            if lookup(&settings.table, word).is_some() && seen.insert(word) {
+            if !seen.contains(word) && known.is_set(word, line) {
+                seen.insert(word);
                 let name = escaped(word);
                 notes.push(Note {
                     kind: "bare-macro",

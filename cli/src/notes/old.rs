@@ -5,7 +5,7 @@ use crate::description::{bare_words, bare_words_of_line, macro_name, Mention};
 use crate::examined::Examined;
 use crate::terminal::escaped;
 
-/// One note for each place in these read directives and among what they name, since each has to be changed.
+/// One note for each place in these read lines and among what they name, since each has to be changed.
 pub fn notes(file: &Examined, read: &[(usize, &[u8])], mentions: &[(usize, Mention)]) -> Vec<Note> {
     let words = read.iter().flat_map(|&(line, text)| {
         let words = bare_words_of_line(text).into_iter();

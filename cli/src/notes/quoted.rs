@@ -7,7 +7,7 @@ use crate::description::quoted_macros;
 use crate::examined::Examined;
 use crate::terminal::escaped;
 
-/// One note for each name that is in a string of these read directives, at its first place.
+/// One note for each name that is in a string of these read lines, at its first place.
 pub fn notes(file: &Examined, read: &[(usize, &[u8])]) -> Vec<Note> {
     let mut seen = HashSet::new();
     let mut notes = Vec::new();

@@ -10,7 +10,7 @@ use crate::terminal::escaped;
 /// How many settings the note lists.
 const MAX_LISTED: usize = 20;
 
-/// One note on all settings of -D and -s that none of these read directives names.
+/// One note on all settings of -D and -s that no read line names; these are the mentions.
 pub fn of_settings<'a>(
     mentions: impl Iterator<Item = &'a Mention<'a>>,
     settings: &Settings,

@@ -1,20 +1,21 @@
 //! Directives, as messages speak of them.
 
 use super::brief::brief;
-use crate::description::mentions;
+use crate::description::{directive, mentions};
 use crate::library::{select, Edition, Terms};
 
 /// What an unknown word is taken for, and the words that there are.
-pub fn unknown_word(word: &[u8]) -> String {
+pub fn unknown_word(line: &[u8]) -> String {
     let words = "`!if`, `!ifdef`, `!ifndef`, `!elseif`, `!elif`, `!else` and `!endif`";
-    match word {
+    match directive(line).map_or(b"".as_slice(), |found| found.word) {
         [] => format!("no letter follows the `!`; the directives are {words}"),
-        _ => format!("`!{}` is none of {words}; case matters", brief(word)),
+        word => format!("`!{}` is none of {words}; case matters", brief(word)),
     }
 }
 
 /// What the word of a line takes that has something else after it (22).
-pub fn malformed(line: &[u8], word: &[u8], edition: Edition) -> Option<String> {
+pub fn malformed(line: &[u8], edition: Edition) -> Option<String> {
+    let word = directive(line)?.word;
     let taken = match (word, edition) {
         (b"if" | b"elseif" | b"elif", _) => "a blank and an expression",
         (b"ifdef" | b"ifndef", Edition::New) if is_taken_by_old(line) => return unwrapped(line),

@@ -1,11 +1,9 @@
 //! Refusals of description files.
 
-use super::directive::{malformed, unknown_word};
-use super::expression::{self, PLACED};
-use super::groups;
+use super::expression::PLACED;
 use super::message::Message;
-use super::values;
-use crate::description::{directive, first_byte};
+use super::{define, directive, groups, line};
+use crate::description::{self, first_byte};
 use crate::library::{refusal, Refusal, Terms};
 use crate::terminal::{lines, without_end, Refused};
 
@@ -36,33 +34,18 @@ pub fn of_file(name: &[u8], file: &[u8], terms: Terms, refusal: &Refusal) -> Ref
 /// What helps with the refusal of a line.
 fn hint(lines: &[&[u8]], terms: Terms, line: usize, number: u8, offset: usize) -> Option<String> {
     let (before, text) = (&lines[..line - 1], lines[line - 1]);
+    let defined = description::define(text);
     match number {
         refusal::LINE_LONG => Some(format!("it has {} bytes without its end", text.len())),
         refusal::DIRECTIVE_STRAY => Some(groups::stray(before)),
         refusal::NESTING_DEEP => Some(groups::too_many(before)),
         refusal::FILE_UNFINISHED => Some(groups::unclosed(lines)),
-        _ => {
-            let found = directive(text)?;
-            let argument = text.get(found.text..)?;
-            match number {
-                refusal::CONDITION_VALUE => condition(argument, terms),
-                refusal::WORD_UNKNOWN => Some(unknown_word(found.word)),
-                refusal::TEXT_MALFORMED => malformed(text, found.word, terms.edition),
-                _ => {
-                    let offset = offset.checked_sub(found.text)?;
-                    expression::hint(argument, terms, number, offset)
-                }
-            }
-        }
+        refusal::WORD_UNKNOWN => Some(directive::unknown_word(text)),
+        refusal::TEXT_MALFORMED => match defined {
+            Some(found) => found.err().map(|slip| define::malformed(&slip)),
+            None => directive::malformed(text, terms.edition),
+        },
+        refusal::DEFINED_MANY => Some(define::too_many(defined?.ok()?.name)),
+        _ => line::hint(before, text, terms, number, offset),
     }
-}
-
-/// The value of a condition that is neither 0 nor 1, and what to compare it with.
-fn condition(argument: &[u8], terms: Terms) -> Option<String> {
-    let value = values::described(argument, terms)?;
-    let comparison = match values::number(argument, terms) {
-        Some(_) => "a comparison, as `(..) != 0`,",
-        None => "a comparison with a string",
-    };
-    Some(format!("the value is {value}; {comparison} gives 0 or 1"))
 }

@@ -24,11 +24,13 @@ pub fn refusal(number: u8) -> &'static str {
         19 => "the directive has no open `!if`, or comes after its `!else`",
         20 => "16 groups are open already",
         21 => "this `!if` is still open at the end of the file",
-        22 => "the text after the directive's word is not what it takes",
+        22 => "the text after the line's word is not what it takes",
         23 => "unknown datum type",
         24 => "the value's kind does not suit the datum type",
         25 => "the number is too large for the datum type",
         26 => "the buffer is shorter than the field",
+        27 => "DEFINE lines set more than 64 macros",
+        28 => "DEFINE sets a string of more than 56 bytes",
         _ => "unknown refusal",
     }
 }

@@ -8,7 +8,7 @@ use super::{definition, file};
 use crate::library::limit::MAX_RECORDS;
 use crate::library::{check_table, lookup};
 use crate::refusals::of_table;
-use crate::terminal::{read, Error};
+use crate::terminal::{escaped, read, Error};
 
 /// A ready table, files of settings, and definitions on the command line; each overrides those before it.
 pub struct Sources<'a> {
@@ -27,6 +27,8 @@ pub enum Definition<'a> {
 pub struct Settings {
     /// Well formed.
     pub table: Vec<u8>,
+    /// The option of the ready table, if there is one.
+    ready: Option<String>,
     /// The names that are set as text, each with the place where that was done last.
     pub places: BTreeMap<Vec<u8>, String>,
     /// The names that are meant to be unset.
@@ -37,6 +39,12 @@ impl Settings {
     /// Whether a name is set, or meant to be unset.
     pub fn knows(&self, name: &[u8]) -> bool {
         self.unset.contains(name) || lookup(&self.table, name).is_some()
+    }
+
+    /// Where a name that is set has its value from.
+    pub fn origin(&self, name: &[u8]) -> Option<&str> {
+        let place = self.places.get(name).or(self.ready.as_ref());
+        place.map(String::as_str)
     }
 }
 
@@ -62,6 +70,7 @@ impl Sources<'_> {
         };
         let mut settings = Settings {
             table: ready,
+            ready: self.table.map(|file| format!("-t {}", escaped(file))),
             places: BTreeMap::new(),
             unset: BTreeSet::new(),
         };

@@ -3,27 +3,38 @@
 use Prim.Native.Nat.{ℕ, _+_, _≤_}
 use native.Mathlib.Omega.{arith}
 use mathlib.Core.Path.{_≡_, refl, sym, _∙_}
+use mathlib.Core.Bool.{Bool, true, false}
 use mathlib.Core.List.{List, [], _∷_}
 use lib.ListN.{length}
 use Rattle.units.specs.declared.Dialect.{Dialect}
 use Rattle.line.specs.Directives.{directiveOf}
+use Rattle.line.specs.declared.Directive.the-variants.{Plain}
 use Rattle.groups.specs.Groups.{Group, State, Outcome, go, stop}
-use Rattle.select.specs.Step.{step}
-use Rattle.select.proofs.Steps.{said, decided-step, short-step}
+use Rattle.select.specs.Step.{defines, step}
+use Rattle.select.proofs.Steps.{said, decided-step, short-step, Defines, step-defines}
 use Rattle.select.specs.Select.{Result, accepted, refused, prepend, atEnd, after, run}
 use Rattle.select.proofs.LimitsCorrect.{never}
 use Rattle.blocks.specs.Meaning.{WithinLimit}
+use Rattle.blocks.proofs.StepByWord.{defines-plain}
 use Rattle.blocks.proofs.MayFollow.{Rest, nothing-left}
-use Rattle.blocks.proofs.GroupMoves.{flags, flags-length, Moved, Moving, moved-back, decided-moves}
+use Rattle.blocks.proofs.GroupMoves.{flags, flags-length, Moved, moved-back, stays, decided-moves}
 
 -- a line that was passed
 pub passed : (t : List ℕ) (δ : Dialect) (n : ℕ) (s : State) (l : List ℕ) (m : ℕ) (s′ : State) → step t n s l δ ≡ go m s′
     → (length l ≤ 1024) × Moved (directiveOf l) n (s .groups) (s′ .groups)
-passed t δ n s l m s′ e =
-    let short = short-step t δ n s l (go m s′) e (λ q. let z : _≡_ {A = ℕ} 0 1 = cc in omega arith) in
-    let v : Moving (said t δ n s l) (directiveOf l) n (s .groups) (go m s′) =
-    rw (sym (decided-step t δ n s l short) ∙ e) at (decided-moves (directiveOf l) (said t δ n s l) n (s .count) (s .groups)) in
-    (short, v)
+passed t δ n s l m s′ e = (short, by (defines s l) refl)
+  where
+    short : length l ≤ 1024
+    short = short-step t δ n s l (go m s′) e (λ q. let z : _≡_ {A = ℕ} 0 1 = cc in omega arith)
+
+    by : (b : Bool) → defines s l ≡ b → Moved (directiveOf l) n (s .groups) (s′ .groups)
+    by true f =
+        let h : Defines t δ n s l (go m s′) = rw e at (step-defines t δ n s l f) in
+        let p : directiveOf l ≡ Plain = defines-plain s l f in
+        let g : s′ .groups ≡ s .groups = h .1 in
+        rw (p, g) (stays n (s .groups))
+    by false f =
+        rw (sym (decided-step t δ n s l short f) ∙ e) at (decided-moves (directiveOf l) (said t δ n s l) n (s .count) (s .own) (s .groups))
 
 abbrev Follows : (gs : List Group) → List (List ℕ) → Type 0
 Follows gs ls = Rest 16 (flags gs) ls × WithinLimit ls

@@ -5,8 +5,9 @@ use mathlib.Core.Path.{_≡_, refl, sym, ap, _∙_}
 use mathlib.Core.List.{List, [], _∷_, _++_}
 use lib.ListN.{length, length-append}
 use Rattle.units.specs.declared.Fault.{Fault}
+use Rattle.own.specs.Own.{Own}
 use Rattle.select.specs.Select.{Result, accepted, refused, prepend}
-use Rattle.blocks.specs.Meaning.{Meaning, means, fault, single, _then_}
+use Rattle.blocks.specs.Meaning.{Meaning, means, fault, joined, _then_}
 
 -- marks before a result
 abbrev pub onto : List ℕ → Result → Result
@@ -25,25 +26,29 @@ pub onto-refused : (ms : List ℕ) (x : Fault) (n : ℕ) → onto ms (refused x 
 onto-refused [] x n = refl
 onto-refused (m ∷ ms) x n = ap (prepend m) (onto-refused ms x n)
 
+-- what comes after some lines: a result for each line number, count of operators and settings
+abbrev pub Continues : Type 0
+Continues = ℕ → ℕ → List Own → Result
+
 -- from line n on, with k operators applied: the lines of the meaning, then the rest
-abbrev pub follow : (n k : ℕ) → Meaning → (ℕ → ℕ → Result) → Result
-follow n k (means ms c) rest = onto ms (rest (n + length ms) (k + c))
+abbrev pub follow : (n k : ℕ) → Meaning → Continues → Result
+follow n k (means ms c own) rest = onto ms (rest (n + length ms) (k + c) own)
 follow n k (fault x i) rest = refused x (n + i)
 
-pub follow-ext : (n k : ℕ) (m : Meaning) (f g : ℕ → ℕ → Result) → ((n k : ℕ) → f n k ≡ g n k) → follow n k m f ≡ follow n k m g
-follow-ext n k (means ms c) f g h = ap (onto ms) (h (n + length ms) (k + c))
+pub follow-ext : (n k : ℕ) (m : Meaning) (f g : Continues) → ((n k : ℕ) (own : List Own) → f n k own ≡ g n k own) → follow n k m f ≡ follow n k m g
+follow-ext n k (means ms c own) f g h = ap (onto ms) (h (n + length ms) (k + c) own)
 follow-ext n k (fault x i) f g h = refl
 
-pub follow-none : (n k : ℕ) (f : ℕ → ℕ → Result) → follow n k (means [] 0) f ≡ f n k
-follow-none n k f = rw (add-zero n, add-zero k)
+pub follow-none : (n k : ℕ) (own : List Own) (f : Continues) → follow n k (means [] 0 own) f ≡ f n k own
+follow-none n k own f = rw (add-zero n, add-zero k)
 
-pub follow-then : (n k : ℕ) (a b : Meaning) (f : ℕ → ℕ → Result) → follow n k (a then b) f ≡ follow n k a (λ n′ k′. follow n′ k′ b f)
-follow-then n k (means ms c) (means ns d) f =
-    onto-append ms ns (f (n + length (ms ++ ns)) (k + (c + d)))
+follow-joined : (n k : ℕ) (ms : List ℕ) (c : ℕ) (b : Meaning) (f : Continues) → follow n k (joined ms c b) f ≡ onto ms (follow (n + length ms) (k + c) b f)
+follow-joined n k ms c (means ns d own) f =
+    onto-append ms ns (f (n + length (ms ++ ns)) (k + (c + d)) own)
     ∙ rw (length-append, ← add-assoc n, ← add-assoc k)
-follow-then n k (means ms c) (fault x i) f =
-    rw (← add-assoc n) (sym (onto-refused ms x (n + length ms + i)))
-follow-then n k (fault x i) b f = refl
+follow-joined n k ms c (fault x i) f = rw (← add-assoc n) (sym (onto-refused ms x (n + length ms + i)))
 
-pub follow-single : (n k m c : ℕ) (b : Meaning) (f : ℕ → ℕ → Result) → follow n k (single m c then b) f ≡ prepend m (follow (n + 1) (k + c) b f)
-follow-single n k m c b f = follow-then n k (single m c) b f
+pub follow-then : (n k : ℕ) (a : Meaning) (b : List Own → Meaning) (f : Continues)
+    → follow n k (a then b) f ≡ follow n k a (λ n′ k′ own. follow n′ k′ (b own) f)
+follow-then n k (means ms c own) b f = follow-joined n k ms c (b own) f
+follow-then n k (fault x i) b f = refl

@@ -9,6 +9,7 @@ use lib.Dec.{leb}
 use borrow.Author.Tests.{leb-false}
 use Rattle.units.specs.Refusals.{unplaced}
 use Rattle.text.specs.Bytes.{pick}
+use Rattle.own.specs.Own.{Own}
 use Rattle.line.specs.Directives.{directiveOf}
 use Rattle.line.specs.declared.Directive.{Directive}
 use Rattle.line.specs.declared.Directive.the-variants.{Plain, If, Ifdef, Ifndef, Elseif, Else, Endif, Unknown}
@@ -102,6 +103,10 @@ pub record Moved (d : Directive) (n : ℕ) (gs hs : List Group) : Type 0 where
   pub at : starts hs ≡ started d n (starts gs)
   pub few : length gs ≤ 16 → length hs ≤ 16
 
+-- a plain line does not change them
+pub stays : (n : ℕ) (gs : List Group) → Moved Plain n gs gs
+stays n gs = record { moves = stay; at = refl; few = λ h. h }
+
 -- the open groups and the word let a line pass
 abbrev pub Can : Directive → List Bool → Type 0
 Can Plain fs = Unit
@@ -125,20 +130,21 @@ Moving c d n gs (go m s) = Moved d n gs (s .groups)
 Moving c d n gs (stop x) = (c ≡ Refused (unplaced 19) → ⊥) → Can d (flags gs) → x ≡ unplaced 19 → ⊥
 
 -- a line that opens a group
-module _ (d : Directive) (o : opens d ≡ true) (n k : ℕ) (gs : List Group) where
+module _ (d : Directive) (o : opens d ≡ true) (n k : ℕ) (own : List Own) (gs : List Group) where
   enters : (f : Flags) → f .last ≡ false → leb MAX-GROUPS (length gs) ≡ false → Moved d n gs (group f n ∷ gs)
   enters f e h = record { moves = rw e (enter o); at = sym (started-opens d n (starts gs) o); few = λ _. leb-false MAX-GROUPS (length gs) h }
 
-  pub opening-moves : (c : Condition) → Moving c d n gs (decided d c n (state gs k))
+  pub opening-moves : (c : Condition) → Moving c d n gs (decided d c n (state gs k own))
   unfolding settled
   opening-moves c = rw (opens-plan d o gs, depth-length gs) (by (leb MAX-GROUPS (length gs)) refl (live gs) c)
     where
       read : (c : Condition) (b : Bool) (j : ℕ) → leb MAX-GROUPS (length gs) ≡ false
-          → Moving c d n gs (applied (settled d (innermost gs .flags) b) n j (state gs k))
+          → Moving c d n gs (applied (settled d (innermost gs .flags) b) n j (state gs k own))
       read c b j e = rw (opens-settled d o (innermost gs .flags) b) (enters (firstBranch true b) refl e)
 
       by : (a : Bool) → leb MAX-GROUPS (length gs) ≡ a → (b : Bool) (c : Condition)
-          → Moving c d n gs (planned (pick a (Unread (Refuse (unplaced 20))) (pick b Read (Unread (Push UNREAD (firstBranch false false))))) d c n (state gs k))
+          → Moving c d n gs
+          (planned (pick a (Unread (Refuse (unplaced 20))) (pick b Read (Unread (Push UNREAD (firstBranch false false))))) d c n (state gs k own))
       by true e b c = λ w a z. omega (arith, same-number z)
       by false e true (Holds j) = read (Holds j) true j e
       by false e true (Fails j) = read (Fails j) false j e
@@ -146,9 +152,9 @@ module _ (d : Directive) (o : opens d ≡ true) (n k : ℕ) (gs : List Group) wh
       by false e false c = enters (firstBranch false false) refl e
 
 -- a line inside the group with these flags, or outside all groups
-module _ (n k : ℕ) (gs : List Group) (f : Flags) (m : ℕ) where
+module _ (n k : ℕ) (own : List Own) (gs : List Group) (f : Flags) (m : ℕ) where
   abbrev around : State
-  around = state (group f m ∷ gs) k
+  around = state (group f m ∷ gs) k own
 
   turns : (taken : Bool) → f .last ≡ false → Moved Elseif n (group f m ∷ gs) (group (nextBranch f taken false) m ∷ gs)
   turns taken e = record { moves = rw e turn; at = refl; few = λ h. h }
@@ -195,16 +201,16 @@ module _ (n k : ℕ) (gs : List Group) (f : Flags) (m : ℕ) where
       by true (Refused x) = λ w a z. w (ap Refused z)
       by false c = leaves
 
-pub decided-moves : (d : Directive) (c : Condition) (n k : ℕ) (gs : List Group) → Moving c d n gs (decided d c n (state gs k))
+pub decided-moves : (d : Directive) (c : Condition) (n k : ℕ) (own : List Own) (gs : List Group) → Moving c d n gs (decided d c n (state gs k own))
 unfolding plan
-decided-moves Plain c n k gs = record { moves = stay; at = refl; few = λ h. h }
-decided-moves If c n k gs = opening-moves If refl n k gs c
-decided-moves Ifdef c n k gs = opening-moves Ifdef refl n k gs c
-decided-moves Ifndef c n k gs = opening-moves Ifndef refl n k gs c
-decided-moves Elseif c n k [] = λ w a z. a
-decided-moves Elseif c n k (g ∷ gs) = elseif-moves n k gs (g .flags) (g .line) c
-decided-moves Else c n k [] = λ w a z. a
-decided-moves Else c n k (g ∷ gs) = else-moves n k gs (g .flags) (g .line) c
-decided-moves Endif c n k [] = λ w a z. a
-decided-moves Endif c n k (g ∷ gs) = endif-moves n k gs (g .flags) (g .line) c
-decided-moves Unknown c n k gs = λ w a z. omega (arith, same-number z)
+decided-moves Plain c n k own gs = stays n gs
+decided-moves If c n k own gs = opening-moves If refl n k own gs c
+decided-moves Ifdef c n k own gs = opening-moves Ifdef refl n k own gs c
+decided-moves Ifndef c n k own gs = opening-moves Ifndef refl n k own gs c
+decided-moves Elseif c n k own [] = λ w a z. a
+decided-moves Elseif c n k own (g ∷ gs) = elseif-moves n k own gs (g .flags) (g .line) c
+decided-moves Else c n k own [] = λ w a z. a
+decided-moves Else c n k own (g ∷ gs) = else-moves n k own gs (g .flags) (g .line) c
+decided-moves Endif c n k own [] = λ w a z. a
+decided-moves Endif c n k own (g ∷ gs) = endif-moves n k own gs (g .flags) (g .line) c
+decided-moves Unknown c n k own gs = λ w a z. omega (arith, same-number z)

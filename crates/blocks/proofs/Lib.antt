@@ -8,6 +8,7 @@ pub mod GroupMoves
 pub mod AcceptedBlocks
 pub mod Unambiguous
 pub mod TextFaults
+pub mod DefineFaults
 pub mod Decided
 pub mod MarksTellReading
 pub mod NextLine
@@ -22,8 +23,16 @@ pub mod TooDeep
 pub mod FaultNumbers
 pub mod PassableLines
 pub mod Refused
-pub mod NeverBar
 pub mod ConditionAnswer
 pub mod OwnOrText
 pub mod TextPlaces
+pub mod DefinePlaces
+pub mod SelectionFaults
 pub mod SelectionOffset
+pub mod DefineOnly
+pub mod SettingsByLine
+pub mod ValueStays
+pub mod DefineMarks
+pub mod SettingsByMarks
+pub mod SettingsByBlocks
+pub mod LastSetting

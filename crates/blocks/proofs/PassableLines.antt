@@ -9,17 +9,18 @@ use Rattle.units.specs.declared.Dialect.{Dialect}
 use Rattle.text.specs.Bytes.{bytes, classOf}
 use Rattle.text.specs.Runs.{span}
 use Rattle.text.specs.Order.{compared}
+use Rattle.own.specs.Own.{Own, scope}
 use Rattle.line.specs.Directives.{named, wordStart, textStart, directiveOf}
 use Rattle.line.specs.declared.Directive.the-variants.{Endif}
 use Rattle.condition.specs.Conditions.{idle, evaluate, conditionOf}
 use Rattle.line.specs.declared.Condition.the-variants.{Holds}
 use Rattle.groups.specs.Groups.{Group, State, state}
 use Rattle.select.specs.Select.{Result, accepted, prepend, run, start}
-use Rattle.blocks.specs.Blocks.{Derives, depth}
-use Rattle.blocks.specs.Meaning.{closing, meaning, WithinLimit, resultOf}
+use Rattle.blocks.specs.Blocks.{Blocks, Derives, depth}
+use Rattle.blocks.specs.Meaning.{means, closing, meaning, WithinLimit, resultOf}
 use Rattle.blocks.specs.Refused.{Passable}
-use Rattle.blocks.proofs.Passing.{Passes}
-use Rattle.blocks.proofs.Continuation.{onto, onto-accepted, follow}
+use Rattle.blocks.specs.Passing.{Passes}
+use Rattle.blocks.proofs.Continuation.{onto, onto-accepted, Continues, follow}
 use Rattle.blocks.proofs.RunMeaning.{end-goes}
 use Rattle.blocks.proofs.MayFollow.{Rest}
 use Rattle.blocks.proofs.GroupMoves.{flags, flags-length}
@@ -58,23 +59,36 @@ Accepting r = (ms : List ℕ) × (c : ℕ) × (r ≡ accepted ms c)
 prepend-accepting : (m : ℕ) (r : Result) → Accepting r → Accepting (prepend m r)
 prepend-accepting m r w = (m ∷ w .0, w .1, ap (prepend m) (w .2))
 
-closing-accepting : (b : Bool) (n k : ℕ) (f : ℕ → ℕ → Result) → ((n k : ℕ) → Accepting (f n k)) → Accepting (follow n k (closing b (Holds 0)) f)
-closing-accepting false n k f h = prepend-accepting 2 (f (n + 1) (k + 0)) (h (n + 1) (k + 0))
-closing-accepting true n k f h = prepend-accepting 5 (f (n + 1) (k + 0)) (h (n + 1) (k + 0))
+closing-accepting : (b : Bool) (n k : ℕ) (own : List Own) (f : Continues) → ((n k : ℕ) (own : List Own) → Accepting (f n k own))
+    → Accepting (follow n k (closing b (Holds 0) own) f)
+closing-accepting false n k own f h = prepend-accepting 2 (f (n + 1) (k + 0) own) (h (n + 1) (k + 0) own)
+closing-accepting true n k own f h = prepend-accepting 5 (f (n + 1) (k + 0) own) (h (n + 1) (k + 0) own)
 
-closers-accepting : (t : List ℕ) (δ : Dialect) (gs : List Group) (n k : ℕ) → Accepting (run t n (state gs k) (closers (flags gs)) δ)
+closers-accepting : (t : List ℕ) (δ : Dialect) (gs : List Group) (n k : ℕ) (own : List Own)
+    → Accepting (run t n (state gs k own) (closers (flags gs)) δ)
 unfolding run
-closers-accepting t δ [] n k = ([], k, refl)
-closers-accepting t δ (g ∷ gs) n k =
-    let e = end-goes t δ (g .flags) (g .line) gs (bytes "!endif") (closers (flags gs)) an-endif endif-short n k in
-    let f : ℕ → ℕ → Result = λ n k. run t n (state gs k) (closers (flags gs)) δ in
-    let q : run t n (state (g ∷ gs) k) (bytes "!endif" ∷ closers (flags gs)) δ ≡ follow n k (closing (g .flags .around) (Holds 0)) f =
-    rw (endif-condition t δ) at e in
-    let w = closing-accepting (g .flags .around) n k f (λ n′ k′. closers-accepting t δ gs n′ k′) in
+closers-accepting t δ [] n k own = ([], k, refl)
+closers-accepting t δ (g ∷ gs) n k own =
+    let e = end-goes t δ (g .flags) (g .line) gs (bytes "!endif") (closers (flags gs)) an-endif endif-short n k own in
+    let f : Continues = λ n k own. run t n (state gs k own) (closers (flags gs)) δ in
+    let q : run t n (state (g ∷ gs) k own) (bytes "!endif" ∷ closers (flags gs)) δ ≡ follow n k (closing (g .flags .around) (Holds 0) own) f =
+    rw (endif-condition (scope own t) δ) at e in
+    let w = closing-accepting (g .flags .around) n k own f (λ n′ k′ own′. closers-accepting t δ gs n′ k′ own′) in
     (w .0, w .1, q ∙ w .2)
 
-pub passes-passable : (t : List ℕ) (δ : Dialect) (ls : List (List ℕ)) (s : State) → Passes t δ 1 start ls s → Passable t ls δ
-passes-passable t δ ls s p =
+-- the meaning of lines that a run passes, with an `!endif` after them for each open group
+pub record Closed (t : List ℕ) (δ : Dialect) (ls : List (List ℕ)) (s : State) : Type 0 where
+  pub blocks : Blocks
+  pub derives : Derives (ls ++ closers (flags (s .groups))) blocks
+  pub shallow : depth blocks ≤ 16
+  pub short : WithinLimit (ls ++ closers (flags (s .groups)))
+  pub marks : List ℕ
+  pub count : ℕ
+  pub own : List Own
+  pub meant : meaning t [] true blocks δ ≡ means marks count own
+
+pub passes-closed : (t : List ℕ) (δ : Dialect) (ls : List (List ℕ)) (s : State) → Passes t δ 1 start ls s → Closed t δ ls s
+passes-closed t δ ls s p =
     let more = closers (flags (s .groups)) in
     let b = passes-back t δ ls 1 start s more p (omega arith) in
     let few = b .0 in
@@ -82,18 +96,34 @@ passes-passable t δ ls s p =
     let d = rest-derives (ls ++ more) r in
     let short = limit-append ls more (passes-short t δ ls 1 start s p) (closers-short (flags (s .groups))) in
     let o = passes-on t δ ls 1 start s more p in
-    let a = closers-accepting t δ (s .groups) (1 + length ls) (s .count) in
-    let e : resultOf (meaning t true (r .blocks) δ) ≡ accepted (o .0 ++ a .0) (a .1) =
+    let a = closers-accepting t δ (s .groups) (1 + length ls) (s .count) (s .own) in
+    let e : resultOf (meaning t [] true (r .blocks) δ) ≡ accepted (o .0 ++ a .0) (a .1) =
     sym (run-complete t δ (ls ++ more) (r .blocks) (d .0) (d .1) short) ∙ o .1 ∙ ap (onto (o .0)) (a .2) ∙ onto-accepted (o .0) (a .0) (a .1) in
+    let w = accepted-means (meaning t [] true (r .blocks) δ) (o .0 ++ a .0) (a .1) e in
     record {
-      more = more;
       blocks = r .blocks;
       derives = d .0;
       shallow = d .1;
       short = short;
       marks = o .0 ++ a .0;
       count = a .1;
-      meant = accepted-means (meaning t true (r .blocks) δ) (o .0 ++ a .0) (a .1) e;
+      own = w .0;
+      meant = w .1;
+    }
+
+pub passes-passable : (t : List ℕ) (δ : Dialect) (ls : List (List ℕ)) (s : State) → Passes t δ 1 start ls s → Passable t ls δ
+passes-passable t δ ls s p =
+    let w = passes-closed t δ ls s p in
+    record {
+      more = closers (flags (s .groups));
+      blocks = w .blocks;
+      derives = w .derives;
+      shallow = w .shallow;
+      short = w .short;
+      marks = w .marks;
+      count = w .count;
+      own = w .own;
+      meant = w .meant;
     }
 
 pub passable-passes : (t : List ℕ) (δ : Dialect) (ls : List (List ℕ)) → Passable t ls δ → (s : State) × Passes t δ 1 start ls s

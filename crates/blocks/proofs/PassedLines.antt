@@ -14,7 +14,7 @@ use Rattle.line.specs.Directives.{named, wordStart, directiveOf}
 use Rattle.line.specs.declared.Directive.{Directive}
 use Rattle.line.specs.declared.Directive.the-variants.{Endif}
 use Rattle.groups.specs.Groups.{State}
-use Rattle.blocks.proofs.Passing.{Passes}
+use Rattle.blocks.specs.Passing.{Passes}
 use Rattle.blocks.proofs.MayFollow.{Rest, nothing-left, before-endif}
 use Rattle.blocks.proofs.GroupMoves.{flags, flags-length, Moved, Moves, stay, enter, turn, final, leave, moved-back}
 use Rattle.blocks.proofs.AcceptedBlocks.{passed}

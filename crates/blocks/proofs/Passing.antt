@@ -1,5 +1,5 @@
--- Lines that a run passes, and statements on a run after them, from which the reasons in specs/Refused.antt follow. Stray.antt,
--- StrayLine.antt, TwoElses.antt and Unfinished.antt have the proofs.
+-- Statements on a run after lines that it passes, from which the reasons in specs/Refused.antt follow. Stray.antt, StrayLine.antt,
+-- TwoElses.antt and Unfinished.antt have the proofs.
 use Prim.Native.Nat.{ℕ, _+_, _≤_}
 use mathlib.Core.Path.{_≡_}
 use mathlib.Core.Logic.{_↔_}
@@ -9,15 +9,11 @@ use Rattle.units.specs.declared.Dialect.{Dialect}
 use Rattle.units.specs.Refusals.{unplaced}
 use Rattle.line.specs.Directives.{directiveOf}
 use Rattle.line.specs.declared.Directive.the-variants.{Unknown}
-use Rattle.groups.specs.Groups.{State, go, stop}
+use Rattle.groups.specs.Groups.{State, stop}
 use Rattle.select.specs.Step.{step}
 use Rattle.select.specs.Select.{accepted, refused, run, start}
 use Rattle.blocks.specs.Beginnings.{Whole, Begins, Innermost}
-
--- a run refuses none of these lines, which start at line n, and goes from one state to another
-abbrev pub Passes : (t : List ℕ) (δ : Dialect) → (n : ℕ) → State → List (List ℕ) → State → Type 0
-Passes t δ n s [] s′ = s ≡ s′
-Passes t δ n s (l ∷ ls) s′ = (m : ℕ) × (q : State) × (step t n s l δ ≡ go m q) × Passes t δ (n + 1) q ls s′
+use Rattle.blocks.specs.Passing.{Passes}
 
 -- Lines that a run passes begin blocks. The next line, if it is within the limit and its word is known, is refused with 19 exactly if the
 -- lines with it begin no blocks.

@@ -17,17 +17,18 @@ use Rattle.line.specs.declared.Directive.the-variants.{Plain, If, Ifdef, Ifndef
 use Rattle.line.specs.declared.Condition.{Condition}
 use Rattle.groups.specs.Rules.{plan}
 use Rattle.groups.specs.Groups.{State, stop}
-use Rattle.select.specs.Step.{decided, step}
+use Rattle.select.specs.Step.{decided, defines, step}
 use Rattle.select.specs.Select.{Result, accepted, refused, run, start}
 use Rattle.select.proofs.LimitsCorrect.{never}
-use Rattle.select.proofs.Steps.{said, long-step, decided-step}
+use Rattle.select.proofs.Steps.{said, long-step, decided-step, other-line}
 use Rattle.blocks.specs.Blocks.{Blocks, opens, Derives, depth}
 use Rattle.blocks.specs.Meaning.{fault, meaning, resultOf, WithinLimit}
 use Rattle.blocks.specs.Beginnings.{Whole}
 use Rattle.blocks.specs.Refused.{Refuses, long, unknown, stray, deep, faulty, RefusedAt, RefusedAtEnd}
-use Rattle.blocks.proofs.Passing.{Passes}
+use Rattle.blocks.specs.Passing.{Passes}
 use Rattle.blocks.proofs.Continuation.{onto, onto-accepted, onto-refused}
 use Rattle.blocks.proofs.RunMeaning.{run-stop}
+use Rattle.blocks.proofs.StepByWord.{defines-plain}
 use Rattle.blocks.proofs.GroupMoves.{flags, flags-length, Moves, stay, enter, turn, final, leave, moved-back}
 use Rattle.blocks.proofs.Decided.{run-complete, refused-means}
 use Rattle.blocks.proofs.PassedLines.{closers, completed, passes-back}
@@ -92,23 +93,30 @@ module _ (t : List ℕ) (δ : Dialect) (ls : List (List ℕ)) (s : State) (p : P
       let limit = limit-append ls (l ∷ more) (passes-short t δ ls 1 start s p) w in
       let o = passes-on t δ ls 1 start s (l ∷ more) p in
       let z : refused x m ≡ refused x (length ls + 1) = ap (refused x) (omega arith) in
-      let f : resultOf (meaning t true (q .blocks) δ) ≡ refused x (length ls + 1) =
+      let f : resultOf (meaning t [] true (q .blocks) δ) ≡ refused x (length ls + 1) =
       sym (run-complete t δ (ls ++ (l ∷ more)) (q .blocks) (d .0) (d .1) limit) ∙ o .1 ∙ ap (onto (o .0)) (run-stop t δ m s l more x e)
       ∙ onto-refused (o .0) x m ∙ z in
-      faulty more (q .blocks) (d .0) (d .1) limit (refused-means (meaning t true (q .blocks) δ) x (length ls) f)
+      faulty more (q .blocks) (d .0) (d .1) limit (refused-means (meaning t [] true (q .blocks) δ) x (length ls) f)
 
-  -- the reason of a step that stops, by the length of its line, its word, and the open groups
-  short-reason : (x : Fault) → length l ≤ 1024 → step t m s l δ ≡ stop x → Refuses t ls l δ x
-  short-reason x short e = by-word (known-or-not (directiveOf l))
+  -- a kept DEFINE line is plain and could pass
+  define-reason : (x : Fault) → length l ≤ 1024 → defines s l ≡ true → step t m s l δ ≡ stop x → Refuses t ls l δ x
+  define-reason x short f e =
+      let w : directiveOf l ≡ Plain = defines-plain s l f in
+      let h = few in
+      text-faulty x (flags (s .groups)) short (rw w stay) (omega (arith, flags-length (s .groups))) e
+
+  -- the reason of a step over another line that stops, by the length of the line, its word, and the open groups
+  short-reason : (x : Fault) → length l ≤ 1024 → defines s l ≡ false → step t m s l δ ≡ stop x → Refuses t ls l δ x
+  short-reason x short f e = by-word (known-or-not (directiveOf l))
     where
       done : decided (directiveOf l) c m s ≡ stop x
-      done = sym (decided-step t δ m s l short) ∙ e
+      done = sym (decided-step t δ m s l short f) ∙ e
 
       moving : (gs : List Bool) → Moves (directiveOf l) (flags (s .groups)) gs → (b : Bool) → opens (directiveOf l) ≡ b
           → (a : Bool) → leb 16 (length (s .groups)) ≡ a
           → Refuses t ls l δ x
       moving gs v true o true h =
-          let q = same-stop (unplaced 20) x (sym (full (directiveOf l) o m (s .count) (s .groups) c (leb-true 16 (length (s .groups)) h)) ∙ done) in
+          let q = same-stop (unplaced 20) x (sym (full (directiveOf l) o m (s .count) (s .own) (s .groups) c (leb-true 16 (length (s .groups)) h)) ∙ done) in
           subst (Refuses t ls l δ) q (deep short o (deeper t δ ls s p m l short o (e ∙ ap stop (sym q))))
       moving gs v true o false h =
           let k = leb-false 16 (length (s .groups)) h in
@@ -120,7 +128,7 @@ module _ (t : List ℕ) (δ : Dialect) (ls : List (List ℕ)) (s : State) (p : P
       by-word : ((directiveOf l ≡ Unknown) ⊎ (directiveOf l ≡ Unknown → ⊥)) → Refuses t ls l δ x
       by-word (inl u) = subst (Refuses t ls l δ) (same-stop (unplaced 18) x (sym (decided-unknown (directiveOf l) u c m s) ∙ done)) (unknown short u)
       by-word (inr known) =
-          move-or-stray c m (s .count) (Refuses t ls l δ x) (directiveOf l) known (s .groups)
+          move-or-stray c m (s .count) (s .own) (Refuses t ls l δ x) (directiveOf l) known (s .groups)
           (λ gs v. moving gs v (opens (directiveOf l)) refl (leb 16 (length (s .groups))) refl)
           (λ q.
           let z = same-stop (unplaced 19) x (sym q ∙ done) in
@@ -129,15 +137,19 @@ module _ (t : List ℕ) (δ : Dialect) (ls : List (List ℕ)) (s : State) (p : P
   stop-reason : (x : Fault) → step t m s l δ ≡ stop x → Refuses t ls l δ x
   stop-reason x e = by (ltb 1024 (length l)) refl
     where
+      within : length l ≤ 1024 → (b : Bool) → defines s l ≡ b → Refuses t ls l δ x
+      within short true f = define-reason x short f e
+      within short false f = short-reason x short f e
+
       by : (b : Bool) → ltb 1024 (length l) ≡ b → Refuses t ls l δ x
       by true h =
           let k = ltb-true 1024 (length l) h in
           subst (Refuses t ls l δ) (same-stop (unplaced 17) x (sym (long-step t δ m s l k) ∙ e)) (long k)
-      by false h = short-reason x (ltb-false 1024 (length l) h) e
+      by false h = within (ltb-false 1024 (length l) h) (defines s l) refl
 
   -- a fault in the meaning of blocks that the lines begin stops the run at this line
   fault-stops : (x : Fault) (more : List (List ℕ)) (bs : Blocks) → Derives (ls ++ (l ∷ more)) bs → depth bs ≤ 16 → WithinLimit (ls ++ (l ∷ more))
-      → meaning t true bs δ ≡ fault x (length ls) → step t m s l δ ≡ stop x
+      → meaning t [] true bs δ ≡ fault x (length ls) → step t m s l δ ≡ stop x
   fault-stops x more bs d k limit e = by (refused-where t δ (l ∷ more) m s x (length ls + 1) (onto-back (o .0) _ x (length ls + 1) (sym (o .1) ∙ whole)))
     where
       o : (ms : List ℕ) × (run t 1 start (ls ++ (l ∷ more)) δ ≡ onto ms (run t m s (l ∷ more) δ))
@@ -163,7 +175,8 @@ module _ (t : List ℕ) (δ : Dialect) (ls : List (List ℕ)) (s : State) (p : P
 
   reason-stops : {x : Fault} → Refuses t ls l δ x → step t m s l δ ≡ stop x
   reason-stops (long h) = long-step t δ m s l h
-  reason-stops (unknown h u) = decided-step t δ m s l h ∙ decided-unknown (directiveOf l) u c m s
+  reason-stops (unknown h u) =
+      decided-step t δ m s l h (other-line t δ m s l (λ e. let z : _≡_ {A = ℕ} 0 1 = cc in omega arith)) ∙ decided-unknown (directiveOf l) u c m s
   reason-stops (stray h k b) = refuses t δ ls s p m l h k b
   reason-stops (deep h o d) = refused-deep t δ ls s p m l h o d
   reason-stops (faulty {x} more bs d k limit e) = fault-stops x more bs d k limit e

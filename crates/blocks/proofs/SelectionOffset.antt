@@ -1,81 +1,50 @@
 -- The place of a refused selection: 0 if its number has none, else that of the expression in the refused line. Assumes nothing.
-use Prim.Native.Nat.{ℕ, _+_, _-_}
+use Prim.Native.Nat.{ℕ, _-_}
 use native.Mathlib.Omega.{arith}
-use mathlib.Core.Path.{_≡_, refl, sym, _∙_}
+use mathlib.Core.Path.{_≡_, sym, _∙_}
 use mathlib.Core.Logic.{_⊎_, inl, inr}
 use mathlib.Core.Bool.{true, false, false≢true}
-use mathlib.Core.List.{List, [], _∷_, _++_}
-use lib.ListN.{length, getD}
-use lib.Seq.{getD-append-seam}
-use lib.Dec.{ltb}
-use Rattle.units.specs.Refusals.{placed, unplaced}
+use mathlib.Core.List.{List, []}
+use lib.ListN.{getD}
+use borrow.Author.Tests.{le-leb, lt-leb}
+use Rattle.units.specs.Refusals.{TOKEN-BAD, DIVISOR-ZERO, placed}
 use Rattle.units.specs.declared.Dialect.{Dialect}
 use Rattle.units.specs.declared.Fault.{Fault}
-use Rattle.text.proofs.Laws.{pick-case}
-use Rattle.settings.specs.Table.{wellFormed}
 use Rattle.line.specs.Lines.{lines}
-use Rattle.line.specs.Directives.{directiveOf}
-use Rattle.line.specs.declared.Condition.the-variants.{Refused}
-use Rattle.condition.specs.Conditions.{conditionOf}
-use Rattle.groups.specs.Groups.{stop}
-use Rattle.select.specs.Select.{MAX-FILE, MAX-LINES, Result, refused, run, start, selection}
-use Rattle.select.proofs.Steps.{said}
+use Rattle.groups.specs.Groups.{State}
+use Rattle.select.specs.Select.{refused, selection}
+use Rattle.blocks.specs.Passing.{Reaches}
 use Rattle.blocks.specs.Offsets.{PlacedIn}
-use Rattle.blocks.proofs.Stops.{Stopped, Ended, refused-where}
-use Rattle.blocks.proofs.StrayLine.{at-end}
-use Rattle.blocks.proofs.OwnOrText.{Bare, From, step-from}
+use Rattle.blocks.proofs.OwnOrText.{Bare}
 use Rattle.blocks.proofs.TextPlaces.{bare-place, placed-place}
+use Rattle.blocks.proofs.DefinePlaces.{define-bare, define-placed}
+use Rattle.blocks.proofs.SelectionFaults.{Caused, refusedLine, OfText, selection-explains}
 
--- a fault that has no place, or has one in the expression of line l
-record Located (t : List ℕ) (l : List ℕ) (x : Fault) (δ : Dialect) : Type 0 where
-  bare : placed (x .number) ≡ false → x .at .0 ≡ 0
-  in-line : placed (x .number) ≡ true → PlacedIn t l x δ
+bare-unplaced : (x : Fault) → Bare x → placed (x .number) ≡ false
+bare-unplaced x (inl h, e) = rw h
+bare-unplaced x (inr h, e) = rw (le-leb TOKEN-BAD (x .number) (omega arith), lt-leb (x .number) DIVISOR-ZERO (omega arith))
 
-module _ (t : List ℕ) (δ : Dialect) (x : Fault) (l : List ℕ) where
-  bare-located : Bare x → Located t l x δ
-  bare-located b = record { bare = λ _. b .1; in-line = λ h. absurd (false≢true (sym (b .0) ∙ h)) }
+module _ (t : List ℕ) (δ : Dialect) (n : ℕ) (s : State) (l : List ℕ) (x : Fault) where
+  caused-unplaced : Caused t δ n s l x → placed (x .number) ≡ false → x .at .0 ≡ 0
+  caused-unplaced (inl e) = bare-place t s l δ x e
+  caused-unplaced (inr e) = define-bare t s l δ x (e .0) (e .1)
 
-  located : (Bare x ⊎ (conditionOf t (directiveOf l) l δ ≡ Refused x)) → Located t l x δ
-  located (inl b) = bare-located b
-  located (inr e) = record { bare = bare-place t l δ x e; in-line = placed-place t l δ x e }
-
--- the line after some others
-line-at : (ls before : List (List ℕ)) (l : List ℕ) (rest : List (List ℕ)) (n : ℕ) → ls ≡ before ++ (l ∷ rest) → n ≡ 1 + length before
-    → l ≡ getD ls (n - 1) []
-line-at ls before l rest n e q =
-    let i : n - 1 ≡ length before = omega arith in
-    rw (e, i) (sym (getD-append-seam before l rest []))
+  caused-placed : Caused t δ n s l x → placed (x .number) ≡ true → PlacedIn t s l x δ
+  caused-placed (inl e) = placed-place t s l δ x e
+  caused-placed (inr e) = define-placed t s l δ x (e .0) (e .1)
 
 module _ (f t : List ℕ) (δ : Dialect) (x : Fault) (n : ℕ) where
-  abbrev line : List ℕ
-  line = getD (lines f) (n - 1) []
-
-  run-located : run t 1 start (lines f) δ ≡ refused x n → Located t line x δ
-  run-located e = by (refused-where t δ (lines f) 1 start x n e)
-    where
-      by : Stopped t δ 1 start (lines f) x n ⊎ Ended t δ 1 start (lines f) x n → Located t line x δ
-      by (inl w) =
-          let k : From (said t δ n (w .state) (w .at)) (stop x) = rw (w .stops) at (step-from t δ n (w .state) (w .at)) in
-          rw (← line-at (lines f) (w .before) (w .at) (w .rest) n (w .lines) (w .number)) (located t δ x (w .at) k)
-      by (inr w) = let q = at-end (w .state .groups) (w .state .count) x n (w .unclosed) in bare-located t δ x line (rw q (refl, refl))
-
-  abbrev Locates : Result → Type 0
-  Locates r = r ≡ refused x n → Located t line x δ
-
-  own : (k : ℕ) → placed k ≡ false → Locates (refused (unplaced k) 0)
-  own k h e = let q : x ≡ unplaced k = cc in bare-located t δ x line (rw q (h, refl))
-
-  selection-located : (room : ℕ) → selection f t room δ ≡ refused x n → Located t line x δ
-  unfolding selection
-  selection-located room =
-      pick-case Locates (wellFormed t)
-      (λ _. pick-case Locates (ltb MAX-FILE (length f)) (λ _. own 14 refl)
-      (λ _. pick-case Locates (ltb MAX-LINES (length (lines f))) (λ _. own 15 refl)
-      (λ _. pick-case Locates (ltb room (length (lines f))) (λ _. own 16 refl) (λ _. run-located))))
-      (λ _. own 1 refl)
-
   pub selection-unplaced : (room : ℕ) → selection f t room δ ≡ refused x n → placed (x .number) ≡ false → x .at .0 ≡ 0
-  selection-unplaced room e = selection-located room e .bare
+  selection-unplaced room e h = by (selection-explains f t δ x n room e)
+    where
+      by : Bare x ⊎ OfText f t δ x n → x .at .0 ≡ 0
+      by (inl b) = b .1
+      by (inr w) = caused-unplaced t δ n (w .state) (refusedLine f t δ x n) x (w .cause) h
 
-  pub selection-placed : (room : ℕ) → selection f t room δ ≡ refused x n → placed (x .number) ≡ true → PlacedIn t (getD (lines f) (n - 1) []) x δ
-  selection-placed room e = selection-located room e .in-line
+  pub selection-placed : (room : ℕ) → selection f t room δ ≡ refused x n → placed (x .number) ≡ true
+      → (s : State) × Reaches t (lines f) n s δ × PlacedIn t s (getD (lines f) (n - 1) []) x δ
+  selection-placed room e h = by (selection-explains f t δ x n room e)
+    where
+      by : Bare x ⊎ OfText f t δ x n → (s : State) × Reaches t (lines f) n s δ × PlacedIn t s (getD (lines f) (n - 1) []) x δ
+      by (inl b) = absurd (false≢true (sym (bare-unplaced x b) ∙ h))
+      by (inr w) = (w .state, w .reaches, caused-placed t δ n (w .state) (refusedLine f t δ x n) x (w .cause) h)

@@ -1,18 +1,18 @@
 -- A run is refused at a line after lines that it passed, or at the end of all lines. Assumes nothing.
-use Prim.Native.Nat.{ℕ, suc, _+_}
+use Prim.Native.Nat.{ℕ, suc, _+_, _-_}
 use native.Mathlib.Omega.{arith}
 use native.Mathlib.Nat.{add-zero}
-use mathlib.Core.Path.{_≡_, refl, ap, _∙_}
+use mathlib.Core.Path.{_≡_, refl, sym, ap, _∙_}
 use mathlib.Core.Logic.{_⊎_, inl, inr}
 use mathlib.Core.List.{List, [], _∷_, _++_}
-use lib.ListN.{length}
+use lib.ListN.{length, take}
 use Rattle.units.specs.declared.Dialect.{Dialect}
 use Rattle.units.specs.declared.Fault.{Fault}
 use Rattle.groups.specs.Groups.{State, Outcome, go, stop}
 use Rattle.select.specs.Step.{step}
-use Rattle.select.specs.Select.{Result, accepted, refused, prepend, atEnd, after, run}
+use Rattle.select.specs.Select.{Result, accepted, refused, prepend, atEnd, after, run, start}
 use Rattle.select.proofs.LimitsCorrect.{never}
-use Rattle.blocks.proofs.Passing.{Passes}
+use Rattle.blocks.specs.Passing.{Passes, Reaches}
 use Rattle.blocks.proofs.Continuation.{onto}
 use Rattle.blocks.proofs.RunMeaning.{run-go}
 
@@ -105,3 +105,22 @@ module _ (t : List ℕ) (δ : Dialect) where
   passes-append (l ∷ ls) ms n s s′ s″ p q =
       let z : n + suc (length ls) ≡ n + 1 + length ls = omega arith in
       (p .0, p .1, p .2, passes-append ls ms (n + 1) (p .1) s′ s″ (p .3) (rw z at q))
+
+  -- the state between some of the lines and the others
+  pub passes-split : (ls ms : List (List ℕ)) (n : ℕ) (s s″ : State) → Passes t δ n s (ls ++ ms) s″
+      → (s′ : State) × Passes t δ n s ls s′ × Passes t δ (n + length ls) s′ ms s″
+  passes-split [] ms n s s″ p = (s, refl, rw add-zero p)
+  passes-split (l ∷ ls) ms n s s″ p =
+      let w = passes-split ls ms (n + 1) (p .1) s″ (p .3) in
+      let z : n + suc (length ls) ≡ n + 1 + length ls = omega arith in
+      (w .0, (p .0, p .1, p .2, w .1), rw z (w .2))
+
+  -- lines lead from a state to one state only, so that there is one state before a line
+  pub passes-one : (ls : List (List ℕ)) (n : ℕ) (s s′ s″ : State) → Passes t δ n s ls s′ → Passes t δ n s ls s″ → s′ ≡ s″
+  passes-one [] n s s′ s″ p q = sym p ∙ q
+  passes-one (l ∷ ls) n s s′ s″ p q =
+      let e : p .1 ≡ q .1 = cc (p .2, q .2) in
+      passes-one ls (n + 1) (p .1) s′ s″ (p .3) (rw e (q .3))
+
+  pub reaches-one : (ls : List (List ℕ)) (n : ℕ) (s s′ : State) → Reaches t ls n s δ → Reaches t ls n s′ δ → s ≡ s′
+  reaches-one ls n s s′ = passes-one (take (n - 1) ls) 1 start s s′

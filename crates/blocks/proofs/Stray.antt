@@ -7,22 +7,25 @@ use mathlib.Core.List.{List, [], _∷_, _++_, append-assoc, append-nil}
 use lib.ListN.{length}
 use Rattle.units.specs.declared.Dialect.{Dialect}
 use Rattle.units.specs.Refusals.{unplaced}
+use Rattle.own.specs.Own.{Own, scope}
 use Rattle.line.specs.Directives.{directiveOf}
 use Rattle.line.specs.declared.Directive.{Directive}
 use Rattle.line.specs.declared.Directive.the-variants.{Plain, If, Ifdef, Ifndef, Elseif, Else, Endif, Unknown}
 use Rattle.line.specs.declared.Condition.{Condition}
 use Rattle.groups.specs.Rules.{plan}
 use Rattle.groups.specs.Groups.{Group, State, state, stop}
-use Rattle.select.specs.Step.{decided, step}
+use Rattle.select.specs.Step.{decided, defines, step}
 use Rattle.select.specs.Select.{start}
 use Rattle.select.proofs.Steps.{said, decided-step}
 use Rattle.blocks.specs.Blocks.{Blocks, opens, Derives, depth}
 use Rattle.blocks.specs.Beginnings.{Whole, Begins}
-use Rattle.blocks.proofs.Passing.{Passes, Stray}
+use Rattle.blocks.specs.Passing.{Passes}
+use Rattle.blocks.proofs.Passing.{Stray}
 use Rattle.blocks.proofs.MayFollow.{Rest}
-use Rattle.blocks.proofs.StepByWord.{some-open}
+use Rattle.blocks.proofs.StepByWord.{some-open, defines-plain, define-stops}
 use Rattle.blocks.proofs.GroupMoves.{flags, Moves, stay, enter, turn, final, leave, Can, Moving, decided-moves}
 use Rattle.blocks.proofs.TextFaults.{never-own}
+use Rattle.blocks.proofs.DefineFaults.{define-never-own}
 use Rattle.blocks.proofs.NextLine.{ahead}
 use Rattle.blocks.proofs.PassedLines.{Walk, walk-back, walk-ahead, walk-append, closers, completed, passes-walk}
 
@@ -58,10 +61,10 @@ moves-can final = tt
 moves-can leave = tt
 
 -- any other line is refused with 19, for any condition
-module _ (c : Condition) (n k : ℕ) (R : Type 0) where
+module _ (c : Condition) (n k : ℕ) (own : List Own) (R : Type 0) where
   before-else : (d : Directive) (g : Group) (gs : List Group) → (hs : List Bool) → Moves d (false ∷ flags gs) hs
-      → (g .flags .last ≡ true → decided d c n (state (g ∷ gs) k) ≡ stop (unplaced 19))
-      → ((hs : List Bool) → Moves d (flags (g ∷ gs)) hs → R) → (decided d c n (state (g ∷ gs) k) ≡ stop (unplaced 19) → R) → R
+      → (g .flags .last ≡ true → decided d c n (state (g ∷ gs) k own) ≡ stop (unplaced 19))
+      → ((hs : List Bool) → Moves d (flags (g ∷ gs)) hs → R) → (decided d c n (state (g ∷ gs) k own) ≡ stop (unplaced 19) → R) → R
   before-else d g gs hs v s f h = by (g .flags .last) refl
     where
       by : (b : Bool) → g .flags .last ≡ b → R
@@ -69,7 +72,7 @@ module _ (c : Condition) (n k : ℕ) (R : Type 0) where
       by false e = f hs (rw e v)
 
   pub move-or-stray : (d : Directive) → (d ≡ Unknown → ⊥) → (gs : List Group) → ((hs : List Bool) → Moves d (flags gs) hs → R)
-      → (decided d c n (state gs k) ≡ stop (unplaced 19) → R) → R
+      → (decided d c n (state gs k own) ≡ stop (unplaced 19) → R) → R
   unfolding plan
   move-or-stray Plain u gs f g = f (flags gs) stay
   move-or-stray If u gs f g = f (false ∷ flags gs) (enter refl)
@@ -101,16 +104,24 @@ module _ (t : List ℕ) (δ : Dialect) (ls : List (List ℕ)) (s : State) (p : P
 
   module _ (n : ℕ) (l : List ℕ) (short : length l ≤ 1024) where
     pub not-both : step t n s l δ ≡ stop (unplaced 19) → Begins (ls ++ (l ∷ [])) → ⊥
-    not-both e b =
-        let m = begins-moves l b in
-        let f = decided-moves (directiveOf l) (said t δ n s l) n (s .count) (s .groups) in
-        let g : Moving (said t δ n s l) (directiveOf l) n (s .groups) (stop (unplaced 19)) = rw (sym (decided-step t δ n s l short) ∙ e) at f in
-        g (never-own t δ (directiveOf l) l 19 (omega arith) (omega arith)) (moves-can (m .1)) refl
+    not-both e b = by (defines s l) refl
+      where
+        by : (a : Bool) → defines s l ≡ a → ⊥
+        by true f = define-never-own (s .own) t l δ 19 (omega arith) (omega arith) (define-stops t δ n s l (unplaced 19) short f e)
+        by false f =
+            let m = begins-moves l b in
+            let w = decided-moves (directiveOf l) (said t δ n s l) n (s .count) (s .own) (s .groups) in
+            let g : Moving (said t δ n s l) (directiveOf l) n (s .groups) (stop (unplaced 19)) = rw (sym (decided-step t δ n s l short f) ∙ e) at w in
+            g (never-own (scope (s .own) t) δ (directiveOf l) l 19 (omega arith) (omega arith)) (moves-can (m .1)) refl
 
     pub refuses : (directiveOf l ≡ Unknown → ⊥) → (Begins (ls ++ (l ∷ [])) → ⊥) → step t n s l δ ≡ stop (unplaced 19)
-    refuses known h =
-        decided-step t δ n s l short
-        ∙ move-or-stray (said t δ n s l) n (s .count) _ (directiveOf l) known (s .groups) (λ gs m. absurd (h (moves-begins l gs m))) (λ e. e)
+    refuses known h = by (defines s l) refl
+      where
+        by : (a : Bool) → defines s l ≡ a → step t n s l δ ≡ stop (unplaced 19)
+        by true f = let w : directiveOf l ≡ Plain = defines-plain s l f in absurd (h (moves-begins l (flags (s .groups)) (rw w stay)))
+        by false f =
+            decided-step t δ n s l short f
+            ∙ move-or-stray (said t δ n s l) n (s .count) (s .own) _ (directiveOf l) known (s .groups) (λ gs m. absurd (h (moves-begins l gs m))) (λ e. e)
 
 pub stray : Stray
 stray t δ ls s p =

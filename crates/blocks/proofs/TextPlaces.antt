@@ -17,6 +17,7 @@ use Rattle.text.specs.Bytes.{byte, pick}
 use Rattle.text.specs.Runs.{span}
 use Rattle.text.specs.declared.runs.Set.the-variants.{Blanks}
 use Rattle.text.proofs.Laws.{pick-case}
+use Rattle.own.specs.Own.{scope}
 use Rattle.value.specs.Places.{over}
 use Rattle.value.specs.Values.{number, text, fault}
 use Rattle.evaluation.specs.Evaluation.{Evaluation, value, refused, evaluationIn}
@@ -29,7 +30,8 @@ use Rattle.line.proofs.Words.{bang-inside, plain-line, word-inside, text-starts
 use Rattle.condition.specs.Conditions.{spaced, idle, ofAnswer, ofExpression, nameAt, alone, present, ofNamed, ofMacro, evaluate, inLine, conditionOf}
 use Rattle.condition.specs.declared.macros.Named.{Named}
 use Rattle.condition.proofs.PlaceWithin.{place-within}
-use Rattle.blocks.specs.Offsets.{PlacedIn}
+use Rattle.groups.specs.Groups.{State}
+use Rattle.blocks.specs.Offsets.{condition, PlacedIn}
 use Rattle.blocks.proofs.Numbers.{same-number}
 
 -- a condition whose refusal has no place in the text
@@ -129,25 +131,31 @@ conditional-other : (d : Directive) → (d ≡ If) ⊎ (d ≡ Elseif) → d ≡ 
 conditional-other d (inl e) q = let z : _≡_ {A = ℕ} 0 1 = cc in omega arith
 conditional-other d (inr e) q = let z : _≡_ {A = ℕ} 0 1 = cc in omega arith
 
-module _ (t l : List ℕ) (δ : Dialect) (x : Fault) (e : conditionOf t (directiveOf l) l δ ≡ Refused x) where
-  inside : InText (textStart l) (evaluate t (directiveOf l) (textOf l) δ) x
-  inside = in-text (textStart l) (evaluate t (directiveOf l) (textOf l) δ) x e
+module _ (t : List ℕ) (s : State) (l : List ℕ) (δ : Dialect) (x : Fault) (e : conditionOf (scope (s .own) t) (directiveOf l) l δ ≡ Refused x) where
+  abbrev known : List ℕ
+  known = scope (s .own) t
+
+  inside : InText (textStart l) (evaluate known (directiveOf l) (textOf l) δ) x
+  inside = in-text (textStart l) (evaluate known (directiveOf l) (textOf l) δ) x e
 
   pub bare-place : placed (x .number) ≡ false → x .at .0 ≡ 0
   bare-place h =
       let k : placed (inside .inner .number) ≡ false = ap placed (inside .number) ∙ h in
       inside .at ∙ rw k
 
-  pub placed-place : placed (x .number) ≡ true → PlacedIn t l x δ
+  pub placed-place : placed (x .number) ≡ true → PlacedIn t s l x δ
   placed-place h =
       let k : placed (inside .inner .number) ≡ true = ap placed (inside .number) ∙ h in
-      let w = from-text t (textOf l) δ (inside .inner) k (directiveOf l) (inside .refused) in
+      let w = from-text known (textOf l) δ (inside .inner) k (directiveOf l) (inside .refused) in
       let r = w .1 in
       let place : x .at .0 ≡ textStart l + inside .inner .at .0 = inside .at ∙ rw k in
-      let within = place-within t (directiveOf l) (textOf l) δ (inside .inner) (inside .refused) in
+      let within = place-within known (directiveOf l) (textOf l) δ (inside .inner) (inside .refused) in
       let start = text-inside l (conditional-other (directiveOf l) (w .0)) in
       record {
-        conditional = w .0;
+        text = textOf l;
+        start = textStart l;
+        dialect = inDirectives δ;
+        expression = condition (w .0);
         refusal = r .0;
         answered = r .1;
         number = r .2 ∙ inside .number;

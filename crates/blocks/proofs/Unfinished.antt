@@ -14,7 +14,8 @@ use Rattle.groups.specs.Groups.{Group, State}
 use Rattle.select.specs.Select.{accepted, refused, atEnd, run, start}
 use Rattle.blocks.specs.Blocks.{Blocks, empty, group, Branches, endif, elseif, else, linesOf, linesIn, opens, Derives, depth}
 use Rattle.blocks.specs.Beginnings.{Whole, Innermost}
-use Rattle.blocks.proofs.Passing.{Passes, Unfinished}
+use Rattle.blocks.specs.Passing.{Passes}
+use Rattle.blocks.proofs.Passing.{Unfinished}
 use Rattle.blocks.proofs.Continuation.{onto, onto-accepted, onto-refused}
 use Rattle.blocks.proofs.RunMeaning.{run-go}
 use Rattle.blocks.proofs.MayFollow.{Front, Others, After, None, Rest, nothing-left, before-endif}

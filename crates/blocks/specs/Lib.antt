@@ -5,5 +5,8 @@ pub mod Beginnings
 pub mod Refused
 pub mod ConditionExamples
 pub mod SelectionExamples
+pub mod DefineExamples
 pub mod BlockExamples
+pub mod Passing
+pub mod LastSetting
 pub mod Offsets

@@ -8,6 +8,7 @@ use lib.ListN.{length}
 use Rattle.units.specs.declared.Dialect.{Dialect}
 use Rattle.units.specs.declared.Fault.{Fault}
 use Rattle.units.specs.Refusals.{unplaced}
+use Rattle.own.specs.Own.{Own}
 use Rattle.line.specs.Directives.{directiveOf}
 use Rattle.line.specs.declared.Directive.the-variants.{Unknown}
 use Rattle.blocks.specs.Blocks.{Blocks, opens, Derives, depth}
@@ -23,7 +24,8 @@ pub record Passable (t : List ℕ) (ls : List (List ℕ)) (δ : Dialect) : Type 
   pub short : WithinLimit (ls ++ more)
   pub marks : List ℕ
   pub count : ℕ
-  pub meant : meaning t true blocks δ ≡ means marks count
+  pub own : List Own
+  pub meant : meaning t [] true blocks δ ≡ means marks count own
 
 -- the reason why line l is refused after the lines ls, for each number that a line can be refused with, and its place in the line
 pub data Refuses (t : List ℕ) (ls : List (List ℕ)) (l : List ℕ) (δ : Dialect) : Fault → Type 0 where
@@ -39,7 +41,7 @@ pub data Refuses (t : List ℕ) (ls : List (List ℕ)) (l : List ℕ) (δ : Dial
       → Refuses t ls l δ (unplaced 20)
   -- any other number: the lines with it begin blocks within the limits, and the meaning of these is this fault at this line
   faulty : {x : Fault} (more : List (List ℕ)) (bs : Blocks) → Derives (ls ++ (l ∷ more)) bs → depth bs ≤ 16 → WithinLimit (ls ++ (l ∷ more))
-      → meaning t true bs δ ≡ fault x (length ls)
+      → meaning t [] true bs δ ≡ fault x (length ls)
       → Refuses t ls l δ x
 
 -- line n is the first one that is refused, with this number and at this place

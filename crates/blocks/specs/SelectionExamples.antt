@@ -28,7 +28,8 @@ use Rattle.value.specs.Kinds.{clashOr, unaryKind, binaryKind, choiceKind}
 use Rattle.value.specs.Values.{primaryValue, missingPcds, unaryValue, bothValues, binaryValue, choiceValue}
 use Rattle.evaluation.specs.Evaluation.{evaluationIn, ofTokens}
 use Rattle.line.specs.Lines.{onto, endsLine, lines}
-use Rattle.line.specs.Directives.{named, wordStart, textStart, directiveOf}
+use Rattle.own.specs.Own.{recordsOf}
+use Rattle.line.specs.Directives.{named, wordStart, textStart, isDefine, directiveOf}
 use Rattle.condition.specs.Conditions.{idle, ofAnswer, ofExpression, nameAt, ofNamed, ofMacro, evaluate}
 use Rattle.groups.specs.Rules.{plan, settled}
 use Rattle.select.specs.Step.{step}
@@ -63,5 +64,5 @@ pub results-hold : (old : Bool) → results old ≡ accepted (4 ∷ 1 ∷ 2 ∷ 
     ∷ accepted (3 ∷ 0 ∷ 5 ∷ []) 3
     ∷ accepted (4 ∷ 1 ∷ 5 ∷ []) 2
     ∷ []
-unfolding selection run step plan settled onto endsLine lines named wordStart textStart directiveOf evaluate ofExpression ofMacro ofNamed nameAt idle ofAnswer evaluationIn ofTokens barsOutside recordsIn zeros isName wellFormedName orderedNames ordered plainKind plainRecord plainRecords wellFormed littleEndian valueAt settingUnderAt settingUnder reading isEquality readToken readByte readFrom tooDeep checkDepth classOf span compared macroName pcdName digitOf valueIn literal isDecimal isHexadecimal hexadecimalOf numberOf stringOf stringAt spelled isWide wordOf macroOf begins leading lexemeBy lexeme isPrimary isUnary levelOf runGoal parse clashOr unaryKind binaryKind choiceKind andDigits orDigits applyUnary applyBinary comparison compareNumbers primaryValue missingPcds unaryValue bothValues binaryValue choiceValue
+unfolding selection run step plan settled onto endsLine lines named wordStart textStart isDefine directiveOf recordsOf evaluate ofExpression ofMacro ofNamed nameAt idle ofAnswer evaluationIn ofTokens barsOutside recordsIn zeros isName wellFormedName orderedNames ordered plainKind plainRecord plainRecords wellFormed littleEndian valueAt settingUnderAt settingUnder reading isEquality readToken readByte readFrom tooDeep checkDepth classOf span compared macroName pcdName digitOf valueIn literal isDecimal isHexadecimal hexadecimalOf numberOf stringOf stringAt spelled isWide wordOf macroOf begins leading lexemeBy lexeme isPrimary isUnary levelOf runGoal parse clashOr unaryKind binaryKind choiceKind andDigits orDigits applyUnary applyBinary comparison compareNumbers primaryValue missingPcds unaryValue bothValues binaryValue choiceValue
 results-hold old = refl

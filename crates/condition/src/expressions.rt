@@ -7,8 +7,8 @@ use line::Condition;
 use units::Dialect;
 use units::Fault;
 ghost use mathlib.Core.Path.{_≡_};
-ghost use mathlib.Core.Bool.{true};
-ghost use Rattle.settings.specs.Table.{ordered};
+ghost use mathlib.Core.List.{_++_};
+ghost use Rattle.lookup.specs.Setting.{Looked};
 ghost use Rattle.value.specs.Places.{Memory};
 ghost use Rattle.evaluation.specs.Evaluation.{denoteAnswer};
 ghost use Rattle.condition.specs.Conditions.{ofNumber, ofAnswer, ofExpression};
@@ -45,9 +45,14 @@ fn of_answer(a: Answer) -> Condition
 }
 
 // The argument is all of the text. Bars need no parentheses in it.
-pub fn of_expression<'a>(table: &'a [u8], text: &'a [u8], dialect: Dialect) -> Condition
-    requires { ⌜ ordered (now table) ≡ true ⌝ }
-    ensures { λ r. ⌜ r ≡ ofExpression (now (table .entry)) (now (text .entry)) dialect ⌝ }
+pub fn of_expression<'a>(
+    own: &'a [u8],
+    table: &'a [u8],
+    text: &'a [u8],
+    dialect: Dialect,
+) -> Condition
+    requires { ⌜ Looked (now own) (now table) ⌝ }
+    ensures { λ r. ⌜ r ≡ ofExpression (now (own .entry) ++ now (table .entry)) (now (text .entry)) dialect ⌝ }
 {
     if !blanks::is_spaced(text) {
         return Condition::Refused(units::unplaced(units::TEXT_MALFORMED));
@@ -56,5 +61,5 @@ pub fn of_expression<'a>(table: &'a [u8], text: &'a [u8], dialect: Dialect) -> C
         bars: true,
         old: dialect.old,
     };
-    of_answer(outcome::evaluate_in(text, table, rules))
+    of_answer(outcome::evaluate_in(text, own, table, rules))
 }

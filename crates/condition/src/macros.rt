@@ -8,9 +8,10 @@ use text::runs;
 use text::runs::Set;
 use units::Dialect;
 use units::Offset;
+use value::forms;
 ghost use mathlib.Core.Path.{_≡_};
-ghost use mathlib.Core.Bool.{true};
-ghost use Rattle.settings.specs.Table.{ordered};
+ghost use mathlib.Core.List.{_++_};
+ghost use Rattle.lookup.specs.Setting.{Looked};
 ghost use Rattle.condition.specs.Conditions.{nameOver, plainName, usedName, nameAt, tested, decided, ofNamed, ofMacro};
 
 // The name of a macro at the front of a text: its start, its length, which is 0 if there is none, and the start of the text after it.
@@ -81,9 +82,9 @@ fn decide(wanted: bool, found: bool) -> Condition
 }
 
 // The condition in a text with this name at its front.
-fn of_named(table: &[u8], wanted: bool, text: &[u8], n: Named) -> Condition
-    requires { ⌜ ordered (now table) ≡ true ⌝ }
-    ensures { λ r. ⌜ r ≡ ofNamed (now (table .entry)) wanted (now (text .entry)) n ⌝ }
+fn of_named(own: &[u8], table: &[u8], wanted: bool, text: &[u8], n: Named) -> Condition
+    requires { ⌜ Looked (now own) (now table) ⌝ }
+    ensures { λ r. ⌜ r ≡ ofNamed (now (own .entry) ++ now (table .entry)) wanted (now (text .entry)) n ⌝ }
 {
     if n.len == 0 {
         return Condition::Refused(units::unplaced(units::TEXT_MALFORMED));
@@ -94,14 +95,14 @@ fn of_named(table: &[u8], wanted: bool, text: &[u8], n: Named) -> Condition
     }
     let start = n.start;
     let name = parts::part(text, start, n.len);
-    let s = lookup::lookup(table, name);
+    let s = forms::setting(own, table, name);
     decide(wanted, s.found)
 }
 
 // `!ifdef` if `wanted` is true, `!ifndef` if it is false.
-pub fn of_macro(table: &[u8], wanted: bool, text: &[u8], dialect: Dialect) -> Condition
-    requires { ⌜ ordered (now table) ≡ true ⌝ }
-    ensures { λ r. ⌜ r ≡ ofMacro (now (table .entry)) wanted (now (text .entry)) dialect ⌝ }
+pub fn of_macro(own: &[u8], table: &[u8], wanted: bool, text: &[u8], dialect: Dialect) -> Condition
+    requires { ⌜ Looked (now own) (now table) ⌝ }
+    ensures { λ r. ⌜ r ≡ ofMacro (now (own .entry) ++ now (table .entry)) wanted (now (text .entry)) dialect ⌝ }
 {
     if !blanks::is_spaced(text) {
         return Condition::Refused(units::unplaced(units::TEXT_MALFORMED));
@@ -109,5 +110,5 @@ pub fn of_macro(table: &[u8], wanted: bool, text: &[u8], dialect: Dialect) -> Co
     let first = runs::run_end(text, Offset(0), Set::Blanks);
     let start = first.0;
     let rest = &text[start..];
-    of_named(table, wanted, rest, name_at(rest, dialect))
+    of_named(own, table, wanted, rest, name_at(rest, dialect))
 }

@@ -8,7 +8,7 @@ ghost use Rattle.units.specs.Refusals.{placed};
 ghost use Rattle.condition.specs.Conditions.{offsetOf, inLine};
 
 // Whether a refusal with this number has a place.
-fn is_placed(number: u8) -> bool
+pub fn is_placed(number: u8) -> bool
     ensures { λ r. ⌜ r ≡ placed number ⌝ }
 {
     (units::TOKEN_BAD <= number) & (number <= units::DIVISOR_ZERO)

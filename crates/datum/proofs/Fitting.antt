@@ -7,7 +7,8 @@ use borrow.Author.Tests.{le-ltb, le-leb, lt-leb, ne-eqb}
 use lib.ListN.{length}
 use Rattle.units.specs.Refusals.{BUFFER-SHORT, refusal}
 use Rattle.text.specs.Parts.{stored}
-use Rattle.datum.specs.Encoding.{VOID, UINT64, Encoding, bytes, unfit, widthOf, limitOf, lowestBytes, numberField, fitted, Writes}
+use Rattle.text.specs.Numbers.{lowestBytes}
+use Rattle.datum.specs.Encoding.{VOID, UINT64, Encoding, bytes, unfit, widthOf, limitOf, numberField, fitted, Writes}
 use Rattle.datum.specs.declared.Written.{Written}
 use Rattle.datum.specs.declared.Written.the-variants.{Length, Refused}
 

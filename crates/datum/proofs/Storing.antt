@@ -1,5 +1,5 @@
 -- The invariant of a loop that stores: the stored elements and the rest are the whole. Assumes nothing.
-use Prim.Native.Nat.{ℕ, zero, suc, _+_, _*_, _-_, _/_, _%_, _≤_, _<_}
+use Prim.Native.Nat.{ℕ, suc, _+_, _*_, _-_, _/_, _%_, _≤_, _<_}
 use native.Mathlib.Omega.{arith}
 use native.Mathlib.Numerals.{add-one}
 use native.Mathlib.Nat.{add-zero, add-suc, suc-add, sub-eq-zero-of-le}
@@ -8,7 +8,8 @@ use mathlib.Core.List.{List, [], _∷_, _++_}
 use lib.ListN.{length, getD, set, drop, length-append, drop-of-length-le}
 use lib.Seq.{sets, length-sets, drop-cons}
 use Rattle.text.specs.Parts.{stored}
-use Rattle.datum.specs.Encoding.{lowestBytes, terminated, widened}
+use Rattle.text.specs.Numbers.{lowestBytes}
+use Rattle.datum.specs.Encoding.{terminated, widened}
 
 -- the list l, at first l₀, after storing all of `whole` except `rest`, which goes to index i and on
 pub record Storing (whole rest l₀ l : List ℕ) (i : ℕ) : Type 0 where
@@ -43,11 +44,6 @@ low-next n i x h = let e : n - i ≡ suc (n - (i + 1)) = omega arith in rw e
 pub low-none : (n i x : ℕ) → n ≤ i → lowestBytes (n - i) x ≡ []
 unfolding lowestBytes
 low-none n i x h = rw (sub-eq-zero-of-le h)
-
-pub low-length : (n x : ℕ) → length (lowestBytes n x) ≡ n
-unfolding lowestBytes
-low-length zero x = refl
-low-length (suc n) x = ap suc (low-length n (x / 256))
 
 -- the byte of a string that is stored next, and the zero
 pub string-next : (s : List ℕ) (i : ℕ) → i < length s → terminated (drop i s) ≡ getD s i 0 ∷ terminated (drop (i + 1) s)

@@ -1,11 +1,12 @@
 -- The bytes of one PCD data field (document 01, "Field bytes") for a number, a string and a wide string, and the refusals 23 to 26.
-use Prim.Native.Nat.{ℕ, zero, suc, _^_, _/_, _%_}
+use Prim.Native.Nat.{ℕ, _^_}
 use mathlib.Core.Path.{_≡_}
 use mathlib.Core.List.{List, [], _∷_, _++_}
 use lib.ListN.{length}
 use lib.Dec.{eqb, ltb, leb}
 use Rattle.units.specs.Refusals.{DATUM-UNKNOWN, DATUM-KIND, DATUM-RANGE, BUFFER-SHORT, refusal}
 use Rattle.text.specs.Bytes.{pick}
+use Rattle.text.specs.Numbers.{lowestBytes}
 use Rattle.text.specs.Parts.{stored}
 use Rattle.datum.specs.declared.Written.{Written}
 use Rattle.datum.specs.declared.Written.the-variants.{Length, Refused}
@@ -41,11 +42,6 @@ widthOf d = pick (eqb d UINT16) 2 (pick (eqb d UINT32) 4 (pick (eqb d UINT64) 8 
 -- the least number that is too large
 unfoldable pub limitOf : ℕ → ℕ
 limitOf d = pick (eqb d BOOLEAN) 2 (256 ^ widthOf d)
-
--- n bytes of a number, the lowest first
-unfoldable pub lowestBytes : (n : ℕ) → ℕ → List ℕ
-lowestBytes zero x = []
-lowestBytes (suc n) x = x % 256 ∷ lowestBytes n (x / 256)
 
 -- a string and a zero byte
 abbrev pub terminated : List ℕ → List ℕ

@@ -4,8 +4,9 @@ ghost use mathlib.Core.List.{[], _∷_};
 ghost use Prim.Native.Nat.{_+_, _*_, _≤_, _<_};
 ghost use lib.ListN.{length};
 ghost use lib.Seq.{sets};
+ghost use Rattle.text.specs.Numbers.{lowestBytes};
 ghost use Rattle.text.specs.Parts.{stored};
-ghost use Rattle.datum.specs.Encoding.{lowestBytes, terminated, widened};
+ghost use Rattle.datum.specs.Encoding.{terminated, widened};
 
 // Stores the lowest `n` bytes of a number, the lowest first.
 pub fn put_number(buffer: &mut [u8], n: usize, x: u64)

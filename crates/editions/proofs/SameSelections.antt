@@ -9,19 +9,22 @@ use Rattle.units.specs.Dialects.{inNew, inOld}
 use Rattle.units.specs.declared.Dialect.{Dialect}
 use Rattle.text.proofs.Laws.{pick-both}
 use Rattle.settings.specs.Table.{wellFormed}
+use Rattle.own.specs.Own.{scope}
 use Rattle.line.specs.Lines.{lines}
 use Rattle.line.specs.Directives.{directiveOf}
 use Rattle.line.specs.declared.Directive.{Directive}
 use Rattle.line.specs.declared.Condition.{Condition}
 use Rattle.line.specs.declared.Condition.the-variants.{Holds, Fails, Refused}
 use Rattle.condition.specs.Conditions.{conditionOf}
+use Rattle.define.specs.Define.{Definition, sets, fails, definitionOf}
 use Rattle.groups.specs.Rules.{plan}
 use Rattle.groups.specs.Groups.{innermost, State, Outcome, go, stop}
 use Rattle.groups.specs.declared.Plan.{Plan}
 use Rattle.groups.specs.declared.Plan.the-variants.{Read, Unread}
-use Rattle.select.specs.Step.{MAX-LINE, planned, step}
+use Rattle.select.specs.Step.{MAX-LINE, planned, defines, defined, step}
 use Rattle.select.specs.Select.{MAX-FILE, MAX-LINES, Result, accepted, refused, prepend, after, run, start, selection, answerOf, refusalNumber}
 use Rattle.editions.proofs.SameConditions.{conditionNumber, Fine, same-condition}
+use Rattle.editions.proofs.SameDefinitions.{definitionNumber, same-definition}
 
 -- the number of a refusal, 0 if there is none
 abbrev outcomeNumber : Outcome → ℕ
@@ -41,22 +44,33 @@ SameResult x y = Fine (resultNumber y) → x ≡ y
 fine-0 : Fine 0
 fine-0 = (λ e. omega arith, λ e. omega arith)
 
+-- a line that is read and not refused so has a condition that is not refused so
+fine-condition : (d : Directive) (n : ℕ) (s : State) (c : Condition) → Fine (outcomeNumber (planned Read d c n s)) → Fine (conditionNumber c)
+fine-condition d n s (Holds k) h = fine-0
+fine-condition d n s (Fails k) h = fine-0
+fine-condition d n s (Refused f) h = h
+
+same-planned : (t : List ℕ) (δ : Dialect) (p : Plan) (d : Directive) (l : List ℕ) (n : ℕ) (s : State)
+    → SameOutcome (planned p d (conditionOf t d l (inOld δ)) n s) (planned p d (conditionOf t d l (inNew δ)) n s)
+same-planned t δ Read d l n s h = ap (λ c. planned Read d c n s) (same-condition t δ d l (fine-condition d n s (conditionOf t d l (inNew δ)) h))
+same-planned t δ (Unread r) d l n s h = refl
+
+-- a DEFINE line that is not refused so says nothing that is refused so
+fine-definition : (s : State) (x : Definition) → Fine (outcomeNumber (defined x s)) → Fine (definitionNumber x)
+fine-definition s (sets x k) h = fine-0
+fine-definition s (fails f) h = h
+
+same-defined : (t : List ℕ) (δ : Dialect) (l : List ℕ) (s : State)
+    → SameOutcome (defined (definitionOf (s .own) t l (inOld δ)) s) (defined (definitionOf (s .own) t l (inNew δ)) s)
+same-defined t δ l s h = ap (λ x. defined x s) (same-definition (s .own) t l δ (fine-definition s (definitionOf (s .own) t l (inNew δ)) h))
+
 module _ (t : List ℕ) (δ : Dialect) where
-  -- a line that is read and not refused so has a condition that is not refused so
-  fine-condition : (d : Directive) (n : ℕ) (s : State) (c : Condition) → Fine (outcomeNumber (planned Read d c n s)) → Fine (conditionNumber c)
-  fine-condition d n s (Holds k) h = fine-0
-  fine-condition d n s (Fails k) h = fine-0
-  fine-condition d n s (Refused f) h = h
-
-  same-planned : (p : Plan) (d : Directive) (l : List ℕ) (n : ℕ) (s : State)
-      → SameOutcome (planned p d (conditionOf t d l (inOld δ)) n s) (planned p d (conditionOf t d l (inNew δ)) n s)
-  same-planned Read d l n s h = ap (λ c. planned Read d c n s) (same-condition t δ d l (fine-condition d n s (conditionOf t d l (inNew δ)) h))
-  same-planned (Unread r) d l n s h = refl
-
   same-step : (n : ℕ) (s : State) (l : List ℕ) → SameOutcome (step t n s l (inOld δ)) (step t n s l (inNew δ))
   unfolding step
   same-step n s l =
-      pick-both SameOutcome (ltb MAX-LINE (length l)) (λ _ _. refl) (λ _. same-planned (plan (directiveOf l) (innermost (s .groups))) (directiveOf l) l n s)
+      pick-both SameOutcome (ltb MAX-LINE (length l)) (λ _ _. refl)
+      (λ _. pick-both SameOutcome (defines s l) (λ _. same-defined t δ l s)
+      (λ _. same-planned (scope (s .own) t) δ (plan (directiveOf l) (innermost (s .groups))) (directiveOf l) l n s))
 
   -- the number of a result is kept by the marks in front of it
   behind-mark : (m : ℕ) (r : Result) → Fine (resultNumber (prepend m r)) → Fine (resultNumber r)

@@ -18,15 +18,17 @@ use Rattle.text.specs.Runs.{holds}
 use Rattle.text.specs.Names.{macroName}
 use Rattle.text.specs.declared.runs.Set.the-variants.{Blanks}
 use Rattle.text.proofs.Laws.{inside}
+use Rattle.text.proofs.NameRuns.{span-stops, span-first, first-byte, capital}
 use Rattle.line.specs.declared.Directive.{Directive}
 use Rattle.line.specs.declared.Directive.the-variants.{Ifdef, Ifndef, Else, Endif}
 use Rattle.line.specs.declared.Condition.{Condition}
 use Rattle.line.specs.declared.Condition.the-variants.{Refused}
 use Rattle.lookup.specs.Setting.{settingUnder}
 use Rattle.condition.specs.Conditions.{spaced, idle, nameOver, nameAt, present, decided, ofNamed, ofMacro, evaluate}
+use Rattle.define.proofs.Pieces.{no-blank, name-before}
 use Rattle.editions.specs.UsedNames.{pastBlanks, SomeBlanks, Name, used, Uses}
 use Rattle.editions.proofs.SameConditions.{no-name, new-name}
-use Rattle.editions.proofs.Names.{span-stops, span-first, first-byte, byte-after, ends-name, no-blank, capital, name-before, name-taken}
+use Rattle.editions.proofs.Names.{byte-after, ends-name, name-taken}
 
 -- what is malformed
 abbrev malformed : Condition
@@ -96,13 +98,14 @@ module _ (t : List ℕ) (δ : Dialect) (b w r : List ℕ) (blanks : SomeBlanks b
   used-named : (wanted : Bool) → ofNamed t wanted (used w r) (nameAt (used w r) (inOld δ)) ≡ decided wanted (settingUnder t w .found)
   unfolding ofNamed nameAt
   used-named wanted =
-      rw (name-before w (bytes ")" ++ r) name refl, closed w r, lt-ltb 0 (length w) (name .some), after-use w r, h, used-found)
+      rw (name-before w (bytes ")" ++ r) (name .some) (name .whole) refl, closed w r, lt-ltb 0 (length w) (name .some), after-use w r, h, used-found)
 
   -- NAME in the new one
   plain-named : (wanted : Bool) → ofNamed t wanted (w ++ r) (nameAt (w ++ r) (inNew δ)) ≡ decided wanted (settingUnder t w .found)
   unfolding ofNamed
   plain-named wanted =
-      rw (new-name (w ++ r) δ, name-before w r name (ends-name r h), lt-ltb 0 (length w) (name .some), drop-append-seam w r, h, plain-found)
+      let n = name-before w r (name .some) (name .whole) (ends-name r h) in
+      rw (new-name (w ++ r) δ, n, lt-ltb 0 (length w) (name .some), drop-append-seam w r, h, plain-found)
 
   used-macro : (wanted : Bool) → ofMacro t wanted (b ++ used w r) (inOld δ) ≡ ofMacro t wanted (b ++ (w ++ r)) (inNew δ)
   used-macro wanted =

@@ -1,3 +1,4 @@
 pub mod Arrays
 pub mod FromTree
 pub mod OffsetWithin
+pub mod OneRecord

@@ -20,14 +20,13 @@ use value::Kind;
 use value::forms;
 use value::values;
 ghost use mathlib.Core.Path.{_≡_};
-ghost use mathlib.Core.Bool.{true};
 ghost use lib.Dec.{ltb};
 ghost use Rattle.text.specs.Bytes.{pick};
-ghost use Rattle.settings.specs.Table.{ordered};
 ghost use Rattle.token.specs.Tokens.{reading};
 ghost use Rattle.token.specs.Steps.{Room};
+ghost use Rattle.lookup.specs.Setting.{Looked};
 ghost use Rattle.lookup.specs.declared.Value.the-variants.{Text};
-ghost use Rattle.value.specs.Places.{Memory, over};
+ghost use Rattle.value.specs.Places.{Memory, over, overAll};
 ghost use Rattle.value.specs.Values.{denoteValue};
 ghost use Rattle.value.specs.Denote.{denoteAttributes};
 ghost use Rattle.expression.specs.Parsing.{tokenAt, Holding, Ready};
@@ -129,6 +128,7 @@ fn start_at(
 // The answer to the first n tokens of the arrays, for an expression that ends at `end`.
 fn answer_tokens<'a>(
     expr: &'a [u8],
+    own: &'a [u8],
     table: &'a [u8],
     codes: &'a [u8; 200],
     starts: &'a [u16],
@@ -138,12 +138,12 @@ fn answer_tokens<'a>(
     end: Offset,
     dialect: Dialect,
 ) -> Answer
-    requires { ⌜ Ready (now table) (now codes) (now starts) (now lens) (now values) (n .0) ⌝ }
-    ensures { λ r. ⌜ denoteAnswer (over (now (expr .entry)) (now (table .entry))) r ≡ ofArrays (over (now (expr .entry)) (now (table .entry))) (tokenAt (now (codes .entry)) (now (starts .entry)) (now (lens .entry)) (now (values .entry)) (n .0)) (n .0) (end .0) dialect ⌝ }
+    requires { ⌜ Ready (now own) (now table) (now codes) (now starts) (now lens) (now values) (n .0) ⌝ }
+    ensures { λ r. ⌜ denoteAnswer (overAll (now (expr .entry)) (now (own .entry)) (now (table .entry))) r ≡ ofArrays (overAll (now (expr .entry)) (now (own .entry)) (now (table .entry))) (tokenAt (now (codes .entry)) (now (starts .entry)) (now (lens .entry)) (now (values .entry)) (n .0)) (n .0) (end .0) dialect ⌝ }
 {
     let bar = bars::bar_at(codes, starts, lens, values, n, dialect);
-    let pcd = missing::pcd_at(expr, table, codes, starts, lens, values, n);
-    match expression::parse(expr, table, codes, starts, lens, values, n) {
+    let pcd = missing::pcd_at(expr, own, table, codes, starts, lens, values, n);
+    match expression::parse(expr, own, table, codes, starts, lens, values, n) {
         Parsed::Bad(at) => refused_at(
             units::NO_DERIVATION,
             start_at(codes, starts, lens, values, n, end, at),
@@ -160,18 +160,19 @@ fn answer_tokens<'a>(
     }
 }
 
-// The answer over an ordered table, with lent slices for the tokens.
+// The answer over records and an ordered table behind them, with lent slices for the tokens.
 fn evaluate_with_room<'a>(
     codes: &mut [u8; 200],
     starts: &mut [u16],
     lens: &mut [u16],
     values: &mut [u64],
     expr: &'a [u8],
+    own: &'a [u8],
     table: &'a [u8],
     dialect: Dialect,
 ) -> Answer
-    requires { ⌜ (ordered (now table) ≡ true) × Room (reading (now expr) dialect) (now codes) (now starts) (now lens) (now values) ⌝ }
-    ensures { λ r. ⌜ denoteAnswer (over (now (expr .entry)) (now (table .entry))) r ≡ evaluationIn (over (now (expr .entry)) (now (table .entry))) dialect ⌝ }
+    requires { ⌜ Looked (now own) (now table) × Room (reading (now expr) dialect) (now codes) (now starts) (now lens) (now values) ⌝ }
+    ensures { λ r. ⌜ denoteAnswer (overAll (now (expr .entry)) (now (own .entry)) (now (table .entry))) r ≡ evaluationIn (overAll (now (expr .entry)) (now (own .entry)) (now (table .entry))) dialect ⌝ }
 {
     let s = scan::tokens(codes, starts, lens, values, expr, dialect);
     let ending = s.ending;
@@ -180,6 +181,7 @@ fn evaluate_with_room<'a>(
         Ending::Refused(r) => Answer::Refused(r),
         Ending::Complete(end) => answer_tokens(
             expr,
+            own,
             table,
             codes,
             starts,
@@ -195,10 +197,10 @@ fn evaluate_with_room<'a>(
 // An expression has no more tokens than bytes, so less memory is cleared for one of at most this many bytes.
 const SHORT: usize = 32;
 
-// The answer without the check of the table, which has to be ordered.
-pub fn evaluate_in<'a>(expr: &'a [u8], table: &'a [u8], dialect: Dialect) -> Answer
-    requires { ⌜ ordered (now table) ≡ true ⌝ }
-    ensures { λ r. ⌜ denoteAnswer (over (now (expr .entry)) (now (table .entry))) r ≡ evaluationIn (over (now (expr .entry)) (now (table .entry))) dialect ⌝ }
+// The answer without the check of the table, which has to be ordered, and with records in front of it.
+pub fn evaluate_in<'a>(expr: &'a [u8], own: &'a [u8], table: &'a [u8], dialect: Dialect) -> Answer
+    requires { ⌜ Looked (now own) (now table) ⌝ }
+    ensures { λ r. ⌜ denoteAnswer (overAll (now (expr .entry)) (now (own .entry)) (now (table .entry))) r ≡ evaluationIn (overAll (now (expr .entry)) (now (own .entry)) (now (table .entry))) dialect ⌝ }
 {
     let mut codes = [0u8; 200];
     if expr.len() <= SHORT {
@@ -211,6 +213,7 @@ pub fn evaluate_in<'a>(expr: &'a [u8], table: &'a [u8], dialect: Dialect) -> Ans
             &mut lens,
             &mut values,
             expr,
+            own,
             table,
             dialect,
         );
@@ -224,6 +227,7 @@ pub fn evaluate_in<'a>(expr: &'a [u8], table: &'a [u8], dialect: Dialect) -> Ans
         &mut lens,
         &mut values,
         expr,
+        own,
         table,
         dialect,
     )
@@ -236,7 +240,7 @@ pub fn evaluate<'a>(expr: &'a [u8], table: &'a [u8], dialect: Dialect) -> Answer
     if !settings::is_well_formed(table) {
         return refused(units::TABLE_MALFORMED);
     }
-    evaluate_in(expr, table, dialect)
+    evaluate_in(expr, parts::part(table, Offset(0), 0), table, dialect)
 }
 
 // The part of the expression or of the table that holds an answer's string; an empty part for a number and for a refusal.

@@ -2,7 +2,7 @@
 use Prim.Native.Nat.{ℕ, zero, suc, _+_, _-_, _≤_, _<_}
 use native.Mathlib.Numerals.{add-one}
 use native.Mathlib.Omega.{arith}
-use mathlib.Core.Path.{_≡_, refl, sym, ap}
+use mathlib.Core.Path.{_≡_, refl, sym, ap, subst}
 use mathlib.Core.Bool.{true, false}
 use mathlib.Core.List.{List, [], _∷_}
 use lib.ListN.{length, take, drop, getD}
@@ -13,10 +13,13 @@ use Rattle.grammar.specs.Grammar.{isPrimary}
 use Rattle.token.specs.Tokens.{Token}
 use Rattle.value.specs.Places.{Memory}
 use Rattle.value.specs.Attributes.{Attributes, primaryOf, unaryFrom, binaryFrom, choiceFrom}
-use Rattle.operands.specs.Stack.{operandAt, countAt, piled, Leaves}
+use Rattle.value.specs.Denote.{InOneRecord}
+use Rattle.value.proofs.OneRecord.{denotes-recorded}
+use Rattle.operands.specs.Numbers.{operandIn}
+use Rattle.operands.specs.Stack.{operandAt, countAt, RecordedAt, piled, Leaves}
 use Rattle.operands.proofs.Piles.{pile-length, latest}
 use Rattle.syntax.specs.Order.{UNARY, FILLER}
-use Rattle.expression.specs.Postfix.{Input, codeIn, tokenIn, Entry, operand, unary, binary, choice, filler, entryOf, OnOne, OnTwo, OnThree}
+use Rattle.expression.specs.Postfix.{Input, memoryOf, codeIn, tokenIn, Entry, operand, unary, binary, choice, filler, entryOf, OnOne, OnTwo, OnThree}
 use Rattle.expression.specs.Postfix.{Does, Gives}
 
 -- the sort of an entry, from the tests
@@ -84,10 +87,10 @@ entries k = take (k .filled) (k .order)
 
 -- the first operands of a stack
 abbrev pub pile : Work → List (List ℕ) → ℕ → List Attributes
-pile k w top = piled (k .i .m) w top
+pile k w top = piled (memoryOf (k .i)) w top
 
 abbrev pub at : Work → List (List ℕ) → ℕ → Attributes
-at k w j = operandAt (k .i .m) w j
+at k w j = operandAt (memoryOf (k .i)) w j
 
 -- with `top` operands on the stack w, the entries from p on leave what all entries leave
 pub record Rest (k : Work) (w : List (List ℕ)) (top p : ℕ) : Type 0 where
@@ -105,7 +108,7 @@ pub record Next (k : Work) (y : Entry) (x : ℕ) (w : List (List ℕ)) (top p : 
 
 -- w′ holds the operands of w up to j, and then a
 abbrev pub Left : Work → List (List ℕ) → ℕ → Attributes → List (List ℕ) → Type 0
-Left k w j a w′ = Leaves (k .i .m) w j a w′
+Left k w j a w′ = Leaves (memoryOf (k .i)) w j a w′
 
 module _ {k : Work} {w : List (List ℕ)} {top p : ℕ} where
   -- the next entry
@@ -122,26 +125,32 @@ module _ {k : Work} {w : List (List ℕ)} {top p : ℕ} where
   -- the operands that an entry finds, if all entries leave something
   module _ {x : ℕ} where
     pub operand-room : Next k operand x w top p → (v : Attributes) → Gives (k .i) (k .most) [] (entries k) v → top < k .most
-    operand-room r v g = omega (arith, r .does v g .0, pile-length (k .i .m) w top)
+    operand-room r v g = omega (arith, r .does v g .0, pile-length (memoryOf (k .i)) w top)
 
     pub unary-finds : Next k unary x w top p → (v : Attributes) → Gives (k .i) (k .most) [] (entries k) v → (0 < top) × (countAt w (top - 1) ≤ 200)
     unary-finds r v g =
         let h = r .does v g in
-        let f = one (k .i .m) w top _ h in
+        let f = one (memoryOf (k .i)) w top _ h in
         (f .0, omega (arith, h .few, ap (λ a. a .count) (f .1)))
 
     pub binary-finds : Next k binary x w top p → (v : Attributes) → Gives (k .i) (k .most) [] (entries k) v
-        → (1 < top) × (countAt w (top - 2) + countAt w (top - 2 + 1) ≤ 400)
+        → (1 < top) × (countAt w (top - 2) + countAt w (top - 2 + 1) ≤ 400) × RecordedAt w (top - 2) × RecordedAt w (top - 2 + 1)
     binary-finds r v g =
         let h = r .does v g in
-        let f = two (k .i .m) w top _ h in
-        (f .0, omega (arith, h .few, ap (λ a. a .count) (f .1), ap (λ a. a .count) (f .2)))
+        let f = two (memoryOf (k .i)) w top _ h in
+        let held : (j : ℕ) (a : Attributes) → a ≡ at k w j → InOneRecord (a .value) → RecordedAt w j =
+        λ j a e q. denotes-recorded (memoryOf (k .i)) (operandIn (getD w j []) .value) (subst (λ (b : Attributes). InOneRecord (b .value)) e q) in (
+          f .0,
+          omega (arith, h .few, ap (λ a. a .count) (f .1), ap (λ a. a .count) (f .2)),
+          held (top - 2) (h .a) (f .1) (h .recorded .0),
+          held (top - 2 + 1) (h .b) (f .2) (h .recorded .1),
+        )
 
     pub choice-finds : Next k choice x w top p → (v : Attributes) → Gives (k .i) (k .most) [] (entries k) v
         → (2 < top) × (countAt w (top - 3) + countAt w (top - 3 + 1) + countAt w (top - 3 + 2) ≤ 600)
     choice-finds r v g =
         let h = r .does v g in
-        let f = three (k .i .m) w top _ h in
+        let f = three (memoryOf (k .i)) w top _ h in
         (f .0, omega (arith, h .few, ap (λ a. a .count) (f .1), ap (λ a. a .count) (f .2), ap (λ a. a .count) (f .3)))
 
   -- the remaining entries after an entry
@@ -149,7 +158,7 @@ module _ {k : Work} {w : List (List ℕ)} {top p : ℕ} where
   filler-on r = record { leaves = r .does }
 
   module _ {x : ℕ} (w′ : List (List ℕ)) where
-    pub operand-on : Next k operand x w top p → Left k w top (primaryOf (k .i .m) (tokenIn (k .i) x)) w′ → Rest k w′ (top + 1) (p + 1)
+    pub operand-on : Next k operand x w top p → Left k w top (primaryOf (memoryOf (k .i)) (tokenIn (k .i) x)) w′ → Rest k w′ (top + 1) (p + 1)
     operand-on r l = record { leaves = λ v g. rw (l .top) (r .does v g .1) }
 
     pub unary-on : (o : Token) → o ≡ tokenIn (k .i) (x - UNARY) → Next k unary x w top p → Left k w (top - 1) (unaryFrom o (at k w (top - 1))) w′
@@ -158,7 +167,7 @@ module _ {k : Work} {w : List (List ℕ)} {top p : ℕ} where
         record {
           leaves = λ v g.
               let h = r .does v g in
-              let z = one (k .i .m) w top _ h in
+              let z = one (memoryOf (k .i)) w top _ h in
               rw (placed top (omega (arith, z .0)) l, q) (rw (z .1, z .2) at (h .next));
         }
 
@@ -169,7 +178,7 @@ module _ {k : Work} {w : List (List ℕ)} {top p : ℕ} where
         record {
           leaves = λ v g.
               let h = r .does v g in
-              let z = two (k .i .m) w top _ h in
+              let z = two (memoryOf (k .i)) w top _ h in
               rw (placed (top - 1) (omega (arith, z .0)) l, q) (rw (z .1, z .2, z .3) at (h .next));
         }
 
@@ -180,6 +189,6 @@ module _ {k : Work} {w : List (List ℕ)} {top p : ℕ} where
         record {
           leaves = λ v g.
               let h = r .does v g in
-              let z = three (k .i .m) w top _ h in
+              let z = three (memoryOf (k .i)) w top _ h in
               rw (placed (top - 2) (omega (arith, z .0)) l, q) (rw (z .1, z .2, z .3, z .4) at (h .next));
         }

@@ -21,10 +21,11 @@ use Rattle.syntax.proofs.Orders.{ended}
 use Rattle.value.specs.Values.{skips}
 use Rattle.value.specs.Attributes.{Attributes, firstArm, primaryOf, unaryFrom, binaryFrom, choiceFrom}
 use Rattle.value.specs.declared.Attributes.{Attributes as CodedAttributes}
-use Rattle.value.specs.Denote.{denoteAttributes}
+use Rattle.value.specs.Denote.{InOneRecord, denoteAttributes}
 use Rattle.value.proofs.Laws.{skipped-most, chosen-most}
+use Rattle.value.proofs.OneRecord.{primary-recorded, unary-recorded, binary-recorded, choice-recorded}
 use Rattle.expression.specs.Meaning.{codeOf, meaning}
-use Rattle.expression.specs.Postfix.{Input, codeIn, tokenIn, Gives}
+use Rattle.expression.specs.Postfix.{Input, memoryOf, codeIn, tokenIn, Gives}
 use Rattle.expression.proofs.Entries.{is-unary, is-operand, is-filler, is-choice, is-binary}
 
 -- a binary operator is no primary, and neither is a `?` or the end
@@ -51,10 +52,10 @@ abbrev orders : Input → ℕ → Goal (List ℕ) → Result (List ℕ)
 orders i fuel g = run (codeIn i) postfix (λ j. j) fuel g
 
 abbrev parseStep : Input → (Goal Attributes → Result Attributes) → Goal Attributes → Result Attributes
-parseStep i rec g = step codeOf (meaning (i .m)) (tokenIn i) rec g
+parseStep i rec g = step codeOf (meaning (memoryOf i)) (tokenIn i) rec g
 
 abbrev parses : Input → ℕ → Goal Attributes → Result Attributes
-parses i fuel g = run codeOf (meaning (i .m)) (tokenIn i) fuel g
+parses i fuel g = run codeOf (meaning (memoryOf i)) (tokenIn i) fuel g
 
 module _ (i : Input) (most : ℕ) (few : i .n ≤ 200) where
   -- the entries l leave the operand a, and need no more room than half their number
@@ -63,10 +64,11 @@ module _ (i : Input) (most : ℕ) (few : i .n ≤ 200) where
     some : 1 ≤ weight
     half : weight + weight ≤ length l + 1
     count : a .count < length l
+    recorded : InOneRecord (a .value)
     runs : (s : List Attributes) (k : List ℕ) (v : Attributes) → length s + weight ≤ most → length l ≤ 200
         → Gives i most (a ∷ s) k v → Gives i most s (l ++ k) v
 
-  leaf : (x : ℕ) → isPrimary (codeIn i x) ≡ true → Makes (x ∷ []) (primaryOf (i .m) (tokenIn i x))
+  leaf : (x : ℕ) → isPrimary (codeIn i x) ≡ true → Makes (x ∷ []) (primaryOf (memoryOf i) (tokenIn i x))
   leaf x f =
       let inside = primary-inside (ended (i .codes) (i .n)) x f in
       record {
@@ -74,6 +76,7 @@ module _ (i : Input) (most : ℕ) (few : i .n ≤ 200) where
         some = omega arith;
         half = omega arith;
         count = omega arith;
+        recorded = primary-recorded (memoryOf i) (tokenIn i x);
         runs = λ s k v h g u. rw (is-operand i x (omega arith) f) (omega arith, u);
       }
 
@@ -86,6 +89,7 @@ module _ (i : Input) (most : ℕ) (few : i .n ≤ 200) where
         some = m .some;
         half = omega (arith, z, m .half);
         count = omega (arith, z, m .count);
+        recorded = unary-recorded (tokenIn i x .code) (tokenIn i x .start) (a .value);
         runs = λ s k v h g u.
             rw (append-assoc l ((UNARY + x) ∷ []) k)
             (m .runs s ((UNARY + x) ∷ k) v h (omega (arith, z, g))
@@ -107,11 +111,20 @@ module _ (i : Input) (most : ℕ) (few : i .n ≤ 200) where
         some = omega (arith, m .some);
         half = omega (arith, y, z, m .half, w .half);
         count = omega (arith, x, y, z, m .count, w .count);
+        recorded = binary-recorded (tokenIn i o .code) (tokenIn i o .start) (a .value) (b .value);
         runs = λ s k v p g u.
             rw (append-assoc l (r ++ (o ∷ [])) k, append-assoc r (o ∷ []) k)
             (m .runs s (r ++ (o ∷ k)) v (omega (arith, p)) (omega (arith, y, g))
             (w .runs (a ∷ s) (o ∷ k) v (omega (arith, p, m .some)) (omega (arith, y, z, g))
-            (rw j (record { a = a; b = b; rest = s; shape = refl; few = omega (arith, y, z, g, m .count, w .count); next = u }))));
+            (rw j (record {
+              a = a;
+              b = b;
+              rest = s;
+              shape = refl;
+              few = omega (arith, y, z, g, m .count, w .count);
+              recorded = (m .recorded, w .recorded);
+              next = u;
+            }))));
       }
 
   choice : (q : ℕ) → codeIn i q ≡ QUESTION → (l : List ℕ) (c : Attributes) → Makes l c → (r : List ℕ) (a : Attributes) → Makes r a
@@ -130,6 +143,7 @@ module _ (i : Input) (most : ℕ) (few : i .n ≤ 200) where
         some = omega (arith, m .some);
         half = omega (arith, y, z, y′, m .half, w .half, x .half);
         count = omega (arith, y, z, y′, z′, m .count, w .count, x .count);
+        recorded = choice-recorded (tokenIn i q .start) (c .value) (a .value) (b .value) (w .recorded) (x .recorded);
         runs = λ s k v p g u.
             rw (append-assoc l (r ++ (d ++ (q ∷ FILLER ∷ []))) k, append-assoc r (d ++ (q ∷ FILLER ∷ [])) k, append-assoc d (q ∷ FILLER ∷ []) k)
             (m .runs s (r ++ (d ++ (q ∷ FILLER ∷ k))) v (omega (arith, p)) (omega (arith, y, g))
@@ -203,7 +217,7 @@ module _ (i : Input) (most : ℕ) (few : i .n ≤ 200) where
 
   -- if the descent meets a fault, so does the parser
   pub faulted : (z : ℕ) → Ordered (i .codes) (i .n) (find expression 0) (bad z)
-      → Yields codeOf (meaning (i .m)) (tokenIn i) (i .n) (find expression 0) (bad z)
+      → Yields codeOf (meaning (memoryOf i)) (tokenIn i) (i .n) (find expression 0) (bad z)
   faulted z u = record { with-fuel = λ fuel h. same (agree fuel .finds expression 0 tt) (u .with-fuel fuel h) }
     where
       same : {x : Result (List ℕ)} {r : Result Attributes} → Alike x r → x ≡ bad z → r ≡ bad z
@@ -225,11 +239,11 @@ module _ (i : Input) (most : ℕ) (few : i .n ≤ 200) where
         some (gots {l = y} {a} m) q = let w : y ≡ l = cc in (a, gives a (rw w at m))
 
     pub come : Ordered (i .codes) (i .n) (find expression 0) (got l j) → (z : CodedAttributes) →
-        ((v : Attributes) → Gives i most [] l v → denoteAttributes (i .m) z ≡ v)
-        → Yields codeOf (meaning (i .m)) (tokenIn i) (i .n) (find expression 0) (got (denoteAttributes (i .m) z) j)
+        ((v : Attributes) → Gives i most [] l v → denoteAttributes (memoryOf i) z ≡ v)
+        → Yields codeOf (meaning (memoryOf i)) (tokenIn i) (i .n) (find expression 0) (got (denoteAttributes (memoryOf i) z) j)
     come u z f = record { with-fuel = λ fuel h. same (agree fuel .finds expression 0 tt) (u .with-fuel fuel h) }
       where
-        same : {x : Result (List ℕ)} {r : Result Attributes} → Alike x r → x ≡ got l j → r ≡ got (denoteAttributes (i .m) z) j
+        same : {x : Result (List ℕ)} {r : Result Attributes} → Alike x r → x ≡ got l j → r ≡ got (denoteAttributes (memoryOf i) z) j
         same bads q = let w : _≡_ {A = ℕ} 0 1 = cc in absurd (omega arith)
         same (gots {l = y} {a} {j = p} m) q =
             let w : y ≡ l = cc in

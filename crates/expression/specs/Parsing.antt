@@ -1,12 +1,11 @@
 -- The expression that the tokens in the scanner's arrays derive. Contracts between layers cite this; no promise about an expression does.
 use Prim.Native.Nat.{ℕ, _≤_}
 use mathlib.Core.Path.{_≡_}
-use mathlib.Core.Bool.{true}
 use mathlib.Core.List.{List}
 use lib.ListN.{length, getD}
 use lib.Dec.{ltb}
 use Rattle.text.specs.Bytes.{pick}
-use Rattle.settings.specs.Table.{ordered}
+use Rattle.lookup.specs.Setting.{Looked}
 use Rattle.token.specs.Tokens.{Token}
 use Rattle.grammar.specs.Grammar.{expression}
 use Rattle.grammar.specs.Parse.{Result, bad, got, find, Yields}
@@ -42,7 +41,7 @@ pub record Holding (cs ss ls vs : List ℕ) (n : ℕ) : Type 0 where
   pub lens : n ≤ length ls
   pub values : n ≤ length vs
 
--- the precondition: the table is ordered, and the arrays have n tokens
-pub record Ready (t cs ss ls vs : List ℕ) (n : ℕ) : Type 0 where
-  pub in-order : ordered t ≡ true
+-- the precondition: whole records stand in front of an ordered table, and the arrays have n tokens
+pub record Ready (own t cs ss ls vs : List ℕ) (n : ℕ) : Type 0 where
+  pub looked : Looked own t
   pub holding : Holding cs ss ls vs n

@@ -8,21 +8,26 @@ use Rattle.text.specs.Bytes.{pick}
 use Rattle.codes.specs.Codes.{QUESTION}
 use Rattle.grammar.specs.Grammar.{isPrimary}
 use Rattle.token.specs.Tokens.{Token}
-use Rattle.value.specs.Places.{Memory}
+use Rattle.value.specs.Places.{Memory, overAll}
 use Rattle.value.specs.Attributes.{Attributes, primaryOf, unaryFrom, binaryFrom, choiceFrom}
 use Rattle.value.specs.declared.Attributes.{Attributes as CodedAttributes}
-use Rattle.value.specs.Denote.{denoteAttributes}
+use Rattle.value.specs.Denote.{InOneRecord, denoteAttributes}
 use Rattle.syntax.specs.Order.{codeAt, UNARY, FILLER}
 use Rattle.expression.specs.Parsing.{tokenAt, Ready}
 
--- what an order is evaluated over: a memory, and the first n tokens of the arrays
+-- what an order is evaluated over: an expression, a table with records in front of it, and the first n tokens of the arrays
 pub record Input : Type 0 where
-  pub m : Memory
+  pub expr : List ℕ
+  pub own : List ℕ
+  pub table : List ℕ
   pub codes : List ℕ
   pub starts : List ℕ
   pub lens : List ℕ
   pub values : List ℕ
   pub n : ℕ
+
+abbrev pub memoryOf : Input → Memory
+memoryOf i = overAll (i .expr) (i .own) (i .table)
 
 abbrev pub codeIn : Input → ℕ → ℕ
 codeIn i x = codeAt (i .codes) (i .n) x
@@ -59,6 +64,7 @@ pub record OnTwo (o : Token) (s : List Attributes) (go : List Attributes → Typ
   pub rest : List Attributes
   pub shape : s ≡ b ∷ a ∷ rest
   pub few : a .count + b .count ≤ 400
+  pub recorded : InOneRecord (a .value) × InOneRecord (b .value)
   pub next : go (binaryFrom o a b ∷ rest)
 
 pub record OnThree (o : Token) (s : List Attributes) (go : List Attributes → Type 0) : Type 0 where
@@ -74,7 +80,7 @@ pub record OnThree (o : Token) (s : List Attributes) (go : List Attributes → T
 module _ (i : Input) (most : ℕ) where
   -- the step of an entry x from the stack s
   abbrev pub Does : Entry → (x : ℕ) (s : List Attributes) → (List Attributes → Type 0) → Type 0
-  Does operand x s go = (length s < most) × go (primaryOf (i .m) (tokenIn i x) ∷ s)
+  Does operand x s go = (length s < most) × go (primaryOf (memoryOf i) (tokenIn i x) ∷ s)
   Does unary x s go = OnOne (tokenIn i (x - UNARY)) s go
   Does binary x s go = OnTwo (tokenIn i x) s go
   Does choice x s go = OnThree (tokenIn i x) s go
@@ -87,7 +93,7 @@ module _ (i : Input) (most : ℕ) where
 
   -- the precondition on the first m entries of an order
   pub record Foldable (o : List ℕ) (m : ℕ) : Type 0 where
-    pub ready : Ready (i .m .table) (i .codes) (i .starts) (i .lens) (i .values) (i .n)
+    pub ready : Ready (i .own) (i .table) (i .codes) (i .starts) (i .lens) (i .values) (i .n)
     pub all : m ≤ 200
     pub long : length o ≡ 200
     pub value : Attributes
@@ -95,4 +101,4 @@ module _ (i : Input) (most : ℕ) where
 
   -- the answer is what they leave
   abbrev pub Folds : (o : List ℕ) (m : ℕ) → CodedAttributes → Type 0
-  Folds o m z = (v : Attributes) → Gives [] (take m o) v → denoteAttributes (i .m) z ≡ v
+  Folds o m z = (v : Attributes) → Gives [] (take m o) v → denoteAttributes (memoryOf i) z ≡ v

@@ -7,8 +7,9 @@ use mathlib.Core.Path.{_≡_, refl, sym, ap, _∙_}
 use mathlib.Core.List.{List, [], _∷_}
 use lib.ListN.{length, getD, set}
 use lib.Seq.{getD-set-same, getD-set-other}
+use Rattle.own.specs.Own.{Own}
 use Rattle.groups.specs.Groups.{group, innermost, state, replace, pop}
-use Rattle.groups.specs.Stack.{digit, flagsIn, groupsIn, denoteSelection, Represents}
+use Rattle.groups.specs.Stack.{digit, flagsIn, groupsIn, groupsOf, Represents}
 use Rattle.groups.specs.declared.Flags.{Flags}
 use Rattle.groups.specs.declared.Selection.{Selection}
 use Rattle.groups.proofs.Digits.{digit-small, flags-back, flags-low}
@@ -73,12 +74,12 @@ module _ (v : ℕ) (f : Flags) where
   pub with-digit : (d : ℕ) (ls : List ℕ) → groupsIn (suc d) (v * 16 + digit f) ls ≡ group f (getD ls d 0) ∷ groupsIn d v ls
   with-digit d ls = rw (flags-back v f, rest-back)
 
-module _ (x : Selection) (k : ℕ) where
+module _ (x : Selection) (k : ℕ) (o : List Own) where
   -- with other open groups, and the same lines
   abbrev changed : (depth states : ℕ) → Selection
   changed d w = record { depth = d; count = x .count + k; states = w; lines = x .lines }
 
-  pub stayed : x .depth ≤ 16 → Represents (changed (x .depth) (x .states)) (state (denoteSelection x .groups) (x .count + k))
+  pub stayed : x .depth ≤ 16 → Represents (changed (x .depth) (x .states)) (state (groupsOf x) (x .count + k) o)
   stayed h = record { shallow = h; means = refl }
 
   pub pushed : (f : Flags) (n : ℕ) → x .depth < 16 → length (x .lines) ≡ 16
@@ -88,7 +89,7 @@ module _ (x : Selection) (k : ℕ) where
         states = x .states % 1152921504606846976 * 16 + digit f;
         lines = set (x .lines) (x .depth) n;
       })
-      (state (group f n ∷ denoteSelection x .groups) (x .count + k))
+      (state (group f n ∷ groupsOf x) (x .count + k) o)
   pushed f n h l =
       let d = x .depth in
       let w = x .states in
@@ -96,18 +97,18 @@ module _ (x : Selection) (k : ℕ) where
       let same : getD ls d 0 ≡ n = getD-set-same (x .lines) d n 0 (omega arith) in
       let e : groupsIn (d + 1) (w % room 15 * 16 + digit f) ls ≡ group f n ∷ groupsIn d w (x .lines) =
       rw (add-one, with-digit (w % room 15) f d ls, same, above d (w % room 15) (x .lines) d n (omega arith), below 15 d w (x .lines) (omega arith)) in
-      record { shallow = omega arith; means = ap (λ gs. state gs (x .count + k)) e }
+      record { shallow = omega arith; means = ap (λ gs. state gs (x .count + k) o) e }
 
   pub replaced : (f : Flags) → x .depth ≤ 16
-      → Represents (changed (x .depth) (x .states / 16 * 16 + digit f)) (state (replace f (denoteSelection x .groups)) (x .count + k))
-  replaced f h = record { shallow = h; means = ap (λ gs. state gs (x .count + k)) (by (x .depth)) }
+      → Represents (changed (x .depth) (x .states / 16 * 16 + digit f)) (state (replace f (groupsOf x)) (x .count + k) o)
+  replaced f h = record { shallow = h; means = ap (λ gs. state gs (x .count + k) o) (by (x .depth)) }
     where
       by : (d : ℕ) → groupsIn d (x .states / 16 * 16 + digit f) (x .lines) ≡ replace f (groupsIn d (x .states) (x .lines))
       by zero = refl
       by (suc d) = with-digit (x .states / 16) f d (x .lines)
 
-  pub popped : x .depth ≤ 16 → Represents (changed (x .depth - 1) (x .states / 16)) (state (pop (denoteSelection x .groups)) (x .count + k))
-  popped h = record { shallow = omega arith; means = ap (λ gs. state gs (x .count + k)) (by (x .depth)) }
+  pub popped : x .depth ≤ 16 → Represents (changed (x .depth - 1) (x .states / 16)) (state (pop (groupsOf x)) (x .count + k) o)
+  popped h = record { shallow = omega arith; means = ap (λ gs. state gs (x .count + k) o) (by (x .depth)) }
     where
       by : (d : ℕ) → groupsIn (d - 1) (x .states / 16) (x .lines) ≡ pop (groupsIn d (x .states) (x .lines))
       by zero = refl

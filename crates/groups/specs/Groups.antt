@@ -4,6 +4,7 @@ use mathlib.Core.Bool.{true}
 use mathlib.Core.List.{List, [], _∷_}
 use lib.ListN.{length}
 use Rattle.units.specs.declared.Fault.{Fault}
+use Rattle.own.specs.Own.{Own}
 use Rattle.groups.specs.Rules.{firstBranch}
 use Rattle.groups.specs.declared.Flags.{Flags}
 use Rattle.groups.specs.declared.Innermost.{Innermost}
@@ -23,13 +24,14 @@ abbrev pub innermost : List Group → Innermost
 innermost [] = record { depth = 0; flags = firstBranch true true }
 innermost (g ∷ gs) = record { depth = length (g ∷ gs); flags = g .flags }
 
--- the open groups and the number of operators that were applied so far
+-- the open groups, the number of operators that were applied so far, and the settings that lines so far made
 pub record State : Type 0 where
   pub groups : List Group
   pub count : ℕ
+  pub own : List Own
 
-abbrev pub state : List Group → ℕ → State
-state gs k = record { groups = gs; count = k }
+abbrev pub state : List Group → ℕ → List Own → State
+state gs k own = record { groups = gs; count = k; own = own }
 
 -- a line's mark and the state after it, or its refusal
 pub data Outcome : Type 0 where
@@ -47,8 +49,8 @@ pop (g ∷ gs) = gs
 
 -- a transition at line n, whose condition applied k operators
 abbrev pub applied : Transition → (n k : ℕ) → State → Outcome
-applied (Stay m) n k s = go m (state (s .groups) (s .count + k))
-applied (Push m f) n k s = go m (state (group f n ∷ s .groups) (s .count + k))
-applied (Replace m f) n k s = go m (state (replace f (s .groups)) (s .count + k))
-applied (Pop m) n k s = go m (state (pop (s .groups)) (s .count + k))
+applied (Stay m) n k s = go m (state (s .groups) (s .count + k) (s .own))
+applied (Push m f) n k s = go m (state (group f n ∷ s .groups) (s .count + k) (s .own))
+applied (Replace m f) n k s = go m (state (replace f (s .groups)) (s .count + k) (s .own))
+applied (Pop m) n k s = go m (state (pop (s .groups)) (s .count + k) (s .own))
 applied (Refuse f) n k s = stop f

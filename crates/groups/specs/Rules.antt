@@ -17,7 +17,7 @@ use Rattle.groups.specs.declared.Plan.{Plan}
 use Rattle.groups.specs.declared.Plan.the-variants.{Read, Unread}
 
 -- the marks of lines: a plain line that is dropped or kept; a directive that is not read; one that is read and whose branch is not taken,
--- or is; a read `!endif`
+-- or is; a read `!endif`; a kept line that sets a macro (document 02, order 6)
 abbrev pub DROPPED : ℕ
 DROPPED = 0
 
@@ -35,6 +35,9 @@ TAKEN = 4
 
 abbrev pub ENDED : ℕ
 ENDED = 5
+
+abbrev pub DEFINED : ℕ
+DEFINED = 6
 
 -- the largest number of open groups, those in branches that are not taken included
 abbrev pub MAX-GROUPS : ℕ

@@ -8,6 +8,7 @@ use lib.ListN.{getD}
 use lib.Dec.{eqb}
 use Rattle.units.specs.Refusals.{unplaced}
 use Rattle.text.specs.Bytes.{pick}
+use Rattle.own.specs.Own.{Own}
 use Rattle.groups.specs.Rules.{MAX-GROUPS}
 use Rattle.groups.specs.Groups.{Group, group, State, state, Outcome, go, stop}
 use Rattle.groups.specs.declared.Flags.{Flags}
@@ -37,14 +38,18 @@ abbrev pub groupsIn : (depth states : ℕ) → (lines : List ℕ) → List Group
 groupsIn zero w ls = []
 groupsIn (suc d) w ls = group (flagsIn w) (getD ls d 0) ∷ groupsIn d (w / 16) ls
 
--- every selection means a state
-abbrev pub denoteSelection : Selection → State
-denoteSelection x = state (groupsIn (x .depth) (x .states) (x .lines)) (x .count)
+-- the open groups of a selection
+abbrev pub groupsOf : Selection → List Group
+groupsOf x = groupsIn (x .depth) (x .states) (x .lines)
+
+-- every selection means a state, with the settings that the code holds apart from it
+abbrev pub denoteSelection : Selection → List Own → State
+denoteSelection x own = state (groupsOf x) (x .count) own
 
 -- the selection x of the code represents this state
 pub record Represents (x : Selection) (s : State) : Type 0 where
   pub shallow : x .depth ≤ MAX-GROUPS
-  pub means : denoteSelection x ≡ s
+  pub means : denoteSelection x (s .own) ≡ s
 
 -- a transition suits this number of open groups
 abbrev pub Suits : Transition → (depth : ℕ) → Type 0

@@ -21,6 +21,8 @@ pub const TAKEN: u8 = 4;
 
 pub const ENDED: u8 = 5;
 
+pub const DEFINED: u8 = 6;
+
 // The largest number of open groups, those in branches that are not taken included.
 const MAX_GROUPS: usize = 16;
 

@@ -8,9 +8,11 @@ use crate::rules;
 use units::Fault;
 use units::LineNumber;
 ghost use mathlib.Core.Path.{_≡_};
+ghost use mathlib.Core.List.{List};
 ghost use Prim.Native.Nat.{_+_, _^_, _≤_, _<_};
+ghost use Rattle.own.specs.Own.{Own};
 ghost use Rattle.groups.specs.Groups.{innermost as innermostOf, stop, applied};
-ghost use Rattle.groups.specs.Stack.{digit as digitOf, denoteSelection, Suits, Meets};
+ghost use Rattle.groups.specs.Stack.{digit as digitOf, groupsOf, denoteSelection, Suits, Meets};
 
 // Flags as the four lowest bits of a number.
 fn digit(f: Flags) -> u64
@@ -22,7 +24,7 @@ fn digit(f: Flags) -> u64
 
 // What the rules know of the open groups.
 pub fn innermost(x: Selection) -> Innermost
-    ensures { λ r. ⌜ r ≡ innermostOf (denoteSelection x .groups) ⌝ }
+    ensures { λ r. ⌜ r ≡ innermostOf (groupsOf x) ⌝ }
 {
     let depth = x.depth;
     if depth == 0 {
@@ -59,7 +61,7 @@ pub fn refused(fault: Fault, x: Selection) -> Step
 // A transition at line n, whose condition applied this many operators.
 pub fn apply(r: Transition, n: LineNumber, count: usize, x: Selection) -> Step
     requires { ⌜ (x .depth ≤ 16) × Suits r (x .depth) × (n .0 < 65536) × (x .count + count < 2 ^ 64) ⌝ }
-    ensures { λ z. ⌜ Meets x z (applied r (n .0) count (denoteSelection x)) ⌝ }
+    ensures { λ z. ⌜ ((o : List Own) → Meets x z (applied r (n .0) count (denoteSelection x o))) ⌝ }
 {
     let depth = x.depth;
     let none = units::unplaced(0);

@@ -2,3 +2,4 @@ pub mod FirstLine
 pub mod Words
 pub mod Counting
 pub mod Passing
+pub mod DefineLine

@@ -2,13 +2,14 @@
 -- is not `!` is plain. The word is the run of letters after this `!`.
 use Prim.Native.Nat.{ℕ, _+_}
 use Prim.Native.String.{String}
+use mathlib.Core.Bool.{Bool}
 use mathlib.Core.List.{List, [], _∷_}
 use lib.ListN.{getD, take, drop}
 use lib.Dec.{eqb}
 use Rattle.text.specs.Bytes.{byte, bytes, pick}
 use Rattle.text.specs.Order.{equal}
 use Rattle.text.specs.Runs.{span}
-use Rattle.text.specs.declared.runs.Set.the-variants.{Blanks, Letters}
+use Rattle.text.specs.declared.runs.Set.the-variants.{Blanks, Letters, Word as WordSet}
 use Rattle.line.specs.declared.Directive.{Directive}
 use Rattle.line.specs.declared.Directive.the-variants.{Plain, If, Ifdef, Ifndef, Elseif, Else, Endif, Unknown}
 
@@ -52,6 +53,17 @@ wordOf l = take (span Letters (drop (wordStart l) l)) (drop (wordStart l) l)
 -- the text after the word, up to the line's end
 abbrev pub textOf : List ℕ → List ℕ
 textOf l = drop (textStart l) l
+
+-- the first word of a line (document 02, order 6): the whole run of letters, digits and `_` at its first byte that is no blank; there is none
+-- where that byte is a `!`
+abbrev pub firstWord : List ℕ → List ℕ
+firstWord l =
+    let s : List ℕ = drop (span Blanks l) l in
+    take (span WordSet s) s
+
+-- the first word is `DEFINE`; such a line is plain
+unfoldable pub isDefine : List ℕ → Bool
+isDefine l = equal (firstWord l) (bytes "DEFINE")
 
 unfoldable pub directiveOf : List ℕ → Directive
 directiveOf l = pick (eqb (getD l (span Blanks l) 0) (byte "!")) (named words (wordOf l)) Plain

@@ -9,9 +9,11 @@ use units::Offset;
 ghost use mathlib.Core.Path.{_≡_};
 ghost use Rattle.text.specs.Bytes.{pick};
 ghost use Rattle.text.specs.Order.{equal};
+ghost use mathlib.Core.Bool.{true, false};
 ghost use Prim.Native.Nat.{_≤_};
 ghost use lib.ListN.{length};
-ghost use Rattle.line.specs.Directives.{words, named as namedIn, textStart};
+ghost use Rattle.line.specs.Directives.{words, named as namedIn, textStart, isDefine, directiveOf};
+ghost use Rattle.line.specs.declared.Directive.the-variants.{Plain};
 ghost use Rattle.line.specs.Cutting.{ReadsHead, HandsText};
 
 // The directive `this` if the word has this spelling, else `other`.
@@ -48,6 +50,28 @@ fn named(w: &[u8]) -> Directive
         7 => spelled(w, b"include", Directive::Plain, unknown),
         _ => unknown,
     }
+}
+
+// Whether the first byte of a line that is no blank shows that the line is plain and sets no macro.
+pub fn is_other(line: &[u8]) -> bool
+    ensures { λ r. ⌜ (r ≡ true → (directiveOf (now (line .entry)) ≡ Plain) × (isDefine (now (line .entry)) ≡ false)) ⌝ }
+{
+    let first = runs::run_end(line, Offset(0), Set::Blanks);
+    let byte = bytes::byte_at(line, first);
+    if byte == b'!' {
+        return false;
+    }
+    byte != b'D'
+}
+
+// Whether the first word of a line is `DEFINE`.
+pub fn is_define(line: &[u8]) -> bool
+    ensures { λ r. ⌜ r ≡ isDefine (now (line .entry)) ⌝ }
+{
+    let first = runs::run_end(line, Offset(0), Set::Blanks);
+    let start = first.0;
+    let end = runs::run_end(line, first, Set::Word).0;
+    order::is_equal(&line[start..end], b"DEFINE")
 }
 
 // The directive of a line, and the start of the text after its word. For a plain line the start is any place within the line.

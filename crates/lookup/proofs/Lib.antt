@@ -1,4 +1,5 @@
 pub mod RecordUnderName
 pub mod Within
+pub mod InFront
 pub mod Records
 pub mod Halved

@@ -5,7 +5,8 @@ use units::Offset;
 ghost use mathlib.Core.Path.{_≡_};
 ghost use Prim.Native.Nat.{_+_, _^_, _<_};
 ghost use lib.ListN.{length};
-ghost use Rattle.lookup.specs.Setting.{clipped, valueAt, LooksUp};
+ghost use mathlib.Core.List.{_++_};
+ghost use Rattle.lookup.specs.Setting.{clipped, valueAt, settingUnder, startOf, moved as movedBy, Looked, LooksUp};
 
 // The memory that a string is in.
 pub enum Home {
@@ -86,5 +87,48 @@ pub fn lookup(table: &[u8], name: &[u8]) -> Setting
     Setting {
         found: true,
         value: value_at(Offset(at), &table[at..next]),
+    }
+}
+
+// The value in a table that has this many bytes in front of it.
+fn moved(front: usize, v: Value) -> Value
+    requires { ⌜ startOf v + front < 2 ^ 64 ⌝ }
+    ensures { λ r. ⌜ r ≡ movedBy front v ⌝ }
+{
+    match v {
+        Value::Number(_) => v,
+        Value::Text(k, p) => {
+            let start = p.start;
+            let home = p.home;
+            let place = Place {
+                home,
+                start: Offset(start.0 + front),
+                len: p.len,
+            };
+            Value::Text(k, place)
+        }
+        Value::Fault(_) => v,
+    }
+}
+
+// The setting under a name where records stand in front of a table: that of the first of them with the name, else the table's.
+pub fn lookup_in(own: &[u8], table: &[u8], name: &[u8]) -> Setting
+    requires { ⌜ Looked (now own) (now table) ⌝ }
+    ensures { λ r. ⌜ r ≡ settingUnder (now (own .entry) ++ now (table .entry)) (now (name .entry)) ⌝ }
+{
+    let front = own.len();
+    let at = 128 * own::index_of(own, name);
+    if at < front {
+        let next = at + 128;
+        return Setting {
+            found: true,
+            value: value_at(Offset(at), &own[at..next]),
+        };
+    }
+    let s = lookup(table, name);
+    let value = s.value;
+    Setting {
+        found: s.found,
+        value: moved(front, value),
     }
 }

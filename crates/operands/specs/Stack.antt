@@ -3,6 +3,7 @@ use Prim.Native.Nat.{ℕ, zero, suc, _+_}
 use mathlib.Core.Path.{_≡_}
 use mathlib.Core.List.{List, [], _∷_}
 use lib.ListN.{length, getD}
+use Rattle.lookup.specs.Setting.{Recorded}
 use Rattle.value.specs.Places.{Memory}
 use Rattle.value.specs.Attributes.{Attributes}
 use Rattle.value.specs.Denote.{denoteAttributes}
@@ -14,6 +15,10 @@ operandAt m w i = denoteAttributes m (operandIn (getD w i []))
 
 abbrev pub countAt : List (List ℕ) → ℕ → ℕ
 countAt w i = operandIn (getD w i []) .count
+
+-- the place of its string, if it is one of a table, is within one record
+abbrev pub RecordedAt : List (List ℕ) → ℕ → Type 0
+RecordedAt w i = Recorded (operandIn (getD w i []) .value)
 
 -- the first h operands, the latest first
 unfoldable pub piled : Memory → List (List ℕ) → ℕ → List Attributes

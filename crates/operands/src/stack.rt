@@ -5,13 +5,13 @@ use value::forms;
 use value::forms::Token;
 ghost use mathlib.Core.Path.{_≡_};
 ghost use mathlib.Core.List.{[]};
-ghost use Prim.Native.Nat.{_+_, _≤_, _<_};
+ghost use Prim.Native.Nat.{_+_, _%_, _≤_, _<_};
 ghost use lib.ListN.{length, getD};
-ghost use Rattle.value.specs.Places.{Memory, over};
+ghost use Rattle.value.specs.Places.{Memory, overAll};
 ghost use Rattle.value.specs.Attributes.{unaryFrom, binaryFrom, choiceFrom};
 ghost use Rattle.value.specs.Denote.{denoteAttributes, denoteToken};
 ghost use Rattle.operands.specs.Numbers.{operandIn};
-ghost use Rattle.operands.specs.Stack.{countAt, operandAt, Leaves};
+ghost use Rattle.operands.specs.Stack.{countAt, RecordedAt, operandAt, Leaves};
 
 // The operand at a place.
 pub fn load(waiting: &[[usize; 6]], at: usize) -> Attributes
@@ -36,13 +36,20 @@ pub fn unary(waiting: &mut [[usize; 6]], at: usize, o: Token)
     store(waiting, at, forms::of_unary(o, a));
 }
 
-pub fn binary<'a>(waiting: &mut [[usize; 6]], at: usize, expr: &'a [u8], table: &'a [u8], o: Token)
-    requires { ⌜ (at + 1 < length (now waiting)) × (countAt (now waiting) at + countAt (now waiting) (at + 1) ≤ 400) ⌝ }
-    ensures { λ r. ⌜ Leaves (over (now (expr .entry)) (now (table .entry))) (now (waiting .entry)) at (binaryFrom (denoteToken o) (operandAt (over (now (expr .entry)) (now (table .entry))) (now (waiting .entry)) at) (operandAt (over (now (expr .entry)) (now (table .entry))) (now (waiting .entry)) (at + 1))) (now (waiting .exit)) ⌝ }
+pub fn binary<'a>(
+    waiting: &mut [[usize; 6]],
+    at: usize,
+    expr: &'a [u8],
+    own: &'a [u8],
+    table: &'a [u8],
+    o: Token,
+)
+    requires { ⌜ (at + 1 < length (now waiting)) × (countAt (now waiting) at + countAt (now waiting) (at + 1) ≤ 400) × (length (now own) % 128 ≡ 0) × RecordedAt (now waiting) at × RecordedAt (now waiting) (at + 1) ⌝ }
+    ensures { λ r. ⌜ Leaves (overAll (now (expr .entry)) (now (own .entry)) (now (table .entry))) (now (waiting .entry)) at (binaryFrom (denoteToken o) (operandAt (overAll (now (expr .entry)) (now (own .entry)) (now (table .entry))) (now (waiting .entry)) at) (operandAt (overAll (now (expr .entry)) (now (own .entry)) (now (table .entry))) (now (waiting .entry)) (at + 1))) (now (waiting .exit)) ⌝ }
 {
     let a = load(waiting, at);
     let b = load(waiting, at + 1);
-    store(waiting, at, forms::of_binary(expr, table, o, a, b));
+    store(waiting, at, forms::of_binary(expr, own, table, o, a, b));
 }
 
 // `o` is the token of the `?`.

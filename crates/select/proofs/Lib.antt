@@ -1,8 +1,11 @@
 pub mod RunInvariant
 pub mod Steps
+pub mod Marks
 pub mod Filled
 pub mod FinishCorrect
 pub mod RunBounds
 pub mod LimitsCorrect
 pub mod SelectCorrect
 pub mod MarksEachLine
+pub mod OwnSettings
+pub mod DefineMark

@@ -1,5 +1,5 @@
 -- Parts of a run. Contracts of private functions cite this; no promise about a selection does.
-use Prim.Native.Nat.{ℕ, _≤_}
+use Prim.Native.Nat.{ℕ, _+_, _≤_}
 use mathlib.Core.Path.{_≡_}
 use mathlib.Core.Bool.{true}
 use mathlib.Core.List.{List, [], _∷_, _++_}
@@ -10,7 +10,7 @@ use Rattle.settings.specs.Table.{wellFormed}
 use Rattle.line.specs.Lines.{lines}
 use Rattle.groups.specs.Rules.{plainMark}
 use Rattle.groups.specs.Groups.{Group, innermost}
-use Rattle.groups.specs.Stack.{denoteSelection}
+use Rattle.groups.specs.Stack.{groupsOf}
 use Rattle.groups.specs.declared.Selection.{Selection}
 use Rattle.select.specs.Select.{MAX-LINES, accepted, refused, run, start, selection, answerOf}
 use Rattle.select.specs.declared.Answer.{Answer}
@@ -23,7 +23,11 @@ ends n (g ∷ gs) c = Refused (record { number = FILE-UNFINISHED; line = record 
 
 -- the mark of a plain line, from the selection x of the code
 abbrev pub MarksPlain : (x : Selection) → (mark : ℕ) → Type 0
-MarksPlain x mark = mark ≡ plainMark (innermost (denoteSelection x .groups))
+MarksPlain x mark = mark ≡ plainMark (innermost (groupsOf x))
+
+-- a selection of the code after k more operators
+abbrev pub countedMore : Selection → (k : ℕ) → Selection
+countedMore x k = record { depth = x .depth; count = x .count + k; states = x .states; lines = x .lines }
 
 -- the answer of a run over all lines, and the marks after it if it is accepted
 pub record Runs (f t marks : List ℕ) (r : Answer) (marks′ : List ℕ) (δ : Dialect) : Type 0 where

@@ -49,9 +49,9 @@ unfoldable pub run : (t : List ℕ) → (n : ℕ) → State → List (List ℕ) 
 run t n s [] δ = atEnd (s .groups) (s .count)
 run t n s (l ∷ ls) δ = after (step t n s l δ) n (λ s′. run t (n + 1) s′ ls δ)
 
--- no group is open, no operator was applied
+-- no group is open, no operator was applied, and no line made a setting
 abbrev pub start : State
-start = state [] 0
+start = state [] 0 []
 
 -- the selection of a file f over a table t, with room for this many marks
 unfoldable pub selection : (f t : List ℕ) → (room : ℕ) → Dialect → Result

@@ -1,6 +1,7 @@
 // A run over the lines of a file.
 use crate::Answer;
 use crate::step;
+use define::settle;
 use groups::Selection;
 use groups::rules;
 use line::cut;
@@ -16,7 +17,7 @@ ghost use Prim.Native.Nat.{_≤_, _<_};
 ghost use lib.ListN.{length};
 ghost use Rattle.settings.specs.Table.{ordered};
 ghost use Rattle.line.specs.Lines.{lines};
-ghost use Rattle.groups.specs.Stack.{denoteSelection, Represents};
+ghost use Rattle.groups.specs.Stack.{groupsOf, Represents};
 ghost use Rattle.select.specs.Select.{start as startOf};
 ghost use Rattle.select.specs.Running.{ends, Runs};
 
@@ -47,7 +48,7 @@ pub fn refused(f: Fault, line: LineNumber) -> Answer
 // The answer after the last of n lines: the selection is accepted if no group is open, else refused at the innermost open `!if`.
 fn finish(x: Selection, n: LineNumber) -> Answer
     requires { ⌜ x .depth ≤ 16 ⌝ }
-    ensures { λ r. ⌜ r ≡ ends (n .0) (denoteSelection x .groups) (x .count) ⌝ }
+    ensures { λ r. ⌜ r ≡ ends (n .0) (groupsOf x) (x .count) ⌝ }
 {
     let depth = x.depth;
     if depth == 0 {
@@ -64,6 +65,9 @@ pub fn run<'a>(marks: &mut [u8], file: &'a [u8], table: &'a [u8], dialect: Diale
     ensures { λ r. ⌜ Runs (now (file .entry)) (now (table .entry)) (now (marks .entry)) r (now (marks .exit)) dialect ⌝ }
 {
     let mut x = fresh();
+    // the settings that lines so far made: the first `used` bytes
+    let mut own = [0u8; 8192];
+    let mut used: usize = 0;
     // the mark of plain lines in the current state
     let mut mark = rules::KEPT;
     let mut at = Offset(0);
@@ -75,12 +79,29 @@ pub fn run<'a>(marks: &mut [u8], file: &'a [u8], table: &'a [u8], dialect: Diale
         let e = end.0;
         let i = n.0;
         let line = LineNumber(i + 1);
-        let head = word::read_head(&file[start..e]);
-        let d = head.directive;
-        if step::is_passed(d, e - start) {
+        if step::is_passed(&file[start..e]) {
             marks[i] = mark;
+        } else if step::is_defining(mark, &file[start..e]) {
+            let z = settle::define(&mut own, used, table, &file[start..e], dialect);
+            let ok = z.ok;
+            if !ok {
+                let fault = z.fault;
+                return refused(fault, line);
+            }
+            marks[i] = rules::DEFINED;
+            used = z.used;
+            x = step::counted(x, z.count);
         } else {
-            let z = step::step(table, line, x, &file[start..e], head, dialect);
+            let head = word::read_head(&file[start..e]);
+            let z = step::step(
+                &own[0..used],
+                table,
+                line,
+                x,
+                &file[start..e],
+                head,
+                dialect,
+            );
             let ok = z.ok;
             if !ok {
                 let fault = z.fault;

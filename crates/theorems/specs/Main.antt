@@ -2,13 +2,14 @@
 -- Bytes are natural numbers; `t` is a table of settings, `f` a file, each a list of bytes; `m` is a memory: an expression and a table; `δ` is
 -- any dialect. The definitions in the statements are in the files that the imports name.
 -- Demand 1 is no theorem here: the toolchain proves of each function that it ends, does nothing undefined and gives an answer for any bytes.
-use Prim.Native.Nat.{ℕ, _+_, _-_, _≤_, _<_}
+use Prim.Native.Nat.{ℕ, _+_, _-_, _^_, _≤_, _<_}
 use mathlib.Core.Path.{_≡_}
 use mathlib.Core.Logic.{_↔_, _⊎_}
-use mathlib.Core.Bool.{Bool, true, false}
-use mathlib.Core.List.{List, [], _∷_, _++_, List·Memᴰ, Sublistᴰ}
-use lib.ListN.{length, getD, take, drop}
+use mathlib.Core.Bool.{Bool, true, false, _||_}
+use mathlib.Core.List.{List, [], _∷_, _++_, map, List·Memᴰ, Sublistᴰ}
+use lib.ListN.{length, getD, take, drop, replicate}
 use Rattle.units.specs.Refusals.{TABLE-MALFORMED, TOKEN-BAD, NO-DERIVATION, BAR-OUTSIDE, PCD-MISSING, KINDS-UNSUITED, TEXT-MALFORMED}
+use Rattle.units.specs.Refusals.{DEFINED-MANY, DEFINED-LONG}
 use Rattle.units.specs.Refusals.{refusalAt, faultAt, unplaced, placed}
 use Rattle.units.specs.Leftmost.{there}
 use Rattle.units.specs.Dialects.{byItself, inDirectives, inNew, inOld}
@@ -17,7 +18,7 @@ use Rattle.units.specs.declared.Dialect.{Dialect}
 use Rattle.units.specs.declared.Fault.{Fault}
 use Rattle.units.specs.declared.Offset.{Offset}
 use Rattle.units.specs.declared.Where.the-variants.{Nowhere}
-use Rattle.text.specs.Bytes.{byte, pick}
+use Rattle.text.specs.Bytes.{byte, bytes, pick}
 use Rattle.text.specs.Runs.{span}
 use Rattle.text.specs.declared.runs.Set.the-variants.{Word}
 use Rattle.settings.specs.Table.{records, ordered, wellFormed}
@@ -28,9 +29,15 @@ use Rattle.halving.proofs.Finds.{finds, one-record}
 use Rattle.halving.proofs.RoundsBounded.{at-most-ten, ten-in-a-table, first-takes-ten}
 use Rattle.halving.proofs.Beginning.{first-bytes-decide}
 use Rattle.halving.proofs.FullTable.{full-table}
-use Rattle.lookup.specs.Setting.{recordUnder}
+use Rattle.lookup.specs.Setting.{setTo, settingUnder, recordAmong, recordUnder}
+use Rattle.lookup.specs.declared.Place.{Place}
+use Rattle.lookup.specs.declared.TextKind.{TextKind}
 use Rattle.lookup.specs.declared.TextKind.the-variants.{String}
+use Rattle.lookup.specs.declared.Value.the-variants.{Number, Text}
 use Rattle.lookup.proofs.Halved.{halved-record}
+use Rattle.own.specs.Own.{Own, recordOf, scope, put, has}
+use Rattle.scoped.specs.Macros.{IsPcd, AllMacros, AllDiffer}
+use Rattle.scoped.proofs.UnderName.{under-scope, found-scope}
 use Rattle.codes.specs.Codes.{BARE, OPEN, EQUAL, NOT-EQUAL}
 use Rattle.codes.specs.Levels.{isEquality}
 use Rattle.codes.specs.Spellings.{found}
@@ -57,10 +64,11 @@ use Rattle.blame.specs.Nodes.{root}
 use Rattle.blame.specs.Applied.{faultyNodes}
 use Rattle.blame.proofs.InOrder.{in-order as blame-in-order}
 use Rattle.value.specs.Kinds.{clashes}
-use Rattle.value.specs.Values.{Value, text, fault as faultValue, kindOf, HasKind, InBounds, primaryValue, isMissingPcd}
+use Rattle.value.specs.Values.{Value, number as numberValue, text, fault as faultValue, kindOf, HasKind, InBounds, primaryValue, isMissingPcd}
 use Rattle.expression.specs.Meaning.{codeOf, meaning as attributes}
 use Rattle.leftmost.specs.Leftmost.{pcdAt}
-use Rattle.evaluation.specs.Evaluation.{value, refused as refusedBy, refusedAt, refusedWith, refusalNumber, lineOf, offsetOf, answerValue, refusedOr}
+use Rattle.evaluation.specs.Evaluation.{Evaluation, value, refused as refusedBy, refusedAt, refusedWith, refusalNumber, lineOf, offsetOf}
+use Rattle.evaluation.specs.Evaluation.{answerValue, refusedOr}
 use Rattle.evaluation.specs.Evaluation.{startIn, evaluationIn, evaluation}
 use Rattle.answers.specs.Tests.{wrongKinds, isFault, fails, skipsRight, takesFirst}
 use Rattle.answers.proofs.AnswersExact.{malformed, well-formed, unreadable as not-read, kind-sound, value-kind, counted}
@@ -73,10 +81,19 @@ use Rattle.answers.proofs.StringsInBounds.{strings-in-bounds}
 use Rattle.answers.proofs.LineZero.{without-line}
 use Rattle.answers.proofs.Bars.{same-reading, bars-only, eight-at, eight-without}
 use Rattle.line.specs.Lines.{lines}
+use Rattle.line.specs.Directives.{isDefine}
 use Rattle.line.specs.declared.Directive.{Directive}
 use Rattle.line.specs.declared.Directive.the-variants.{If, Ifdef, Ifndef, Elseif, Else, Endif}
 use Rattle.line.specs.declared.Condition.the-variants.{Refused as RefusedCondition}
 use Rattle.condition.specs.Conditions.{spaced, idle, ofAnswer, evaluate}
+use Rattle.define.specs.Define.{Definition, sets, fails as failing, shaped, macroOf, expressionOf, expressionStart, definitionOf}
+use Rattle.define.specs.Lines.{DefineFirst, DefineText, DefineLine}
+use Rattle.define.specs.Outcomes.{Says}
+use Rattle.define.proofs.LineParts.{define-first, line-parts, parts-line, line-once}
+use Rattle.define.proofs.Outcomes.{says-once, line-says, other-shape, long-name-refused}
+use Rattle.define.proofs.Sets.{record-set, record-kept, line-number, line-text}
+use Rattle.groups.specs.Groups.{State}
+use Rattle.select.specs.Step.{defines}
 use Rattle.select.specs.Select.{accepted, refused, run, start, selection, answerOf, refusalNumber as selectionNumber, Selects}
 use Rattle.select.specs.declared.Answer.{Answer}
 use Rattle.select.specs.declared.Answer.the-variants.{Accepted}
@@ -85,6 +102,8 @@ use Rattle.blocks.specs.Blocks.{Blocks, Derives as DerivesBlocks, depth}
 use Rattle.blocks.specs.Meaning.{means, fault, meaning, resultOf, WithinLimit}
 use Rattle.blocks.specs.Reading.{readsOf}
 use Rattle.blocks.specs.Beginnings.{Innermost}
+use Rattle.blocks.specs.Passing.{Reaches, SetsUntil}
+use Rattle.blocks.specs.LastSetting.{SetBefore, NotSetBefore}
 use Rattle.blocks.specs.Offsets.{PlacedIn}
 use Rattle.blocks.specs.Refused.{RefusedAt, RefusedAtEnd}
 use Rattle.blocks.proofs.Decided.{unambiguous as blocks-unambiguous, sound, complete, run-complete}
@@ -94,7 +113,14 @@ use Rattle.blocks.proofs.FaultNumbers.{fault-numbers}
 use Rattle.blocks.proofs.OneInnermost.{one-innermost}
 use Rattle.blocks.proofs.SelectionOffset.{selection-unplaced, selection-placed}
 use Rattle.blocks.proofs.TextFaults.{never-bar}
-use Rattle.blocks.proofs.NeverBar.{never-bar as selection-never-bar}
+use Rattle.blocks.proofs.DefineOnly.{define-only}
+use Rattle.blocks.proofs.Stops.{reaches-one}
+use Rattle.blocks.proofs.SettingsByLine.{none-first, line-leaves, line-puts, reached-few, reached-macros, reached-differ, reached-records}
+use Rattle.blocks.proofs.SettingsByLine.{pcd-record, pcd-there}
+use Rattle.blocks.proofs.DefineMarks.{defines-marked}
+use Rattle.blocks.proofs.SettingsByBlocks.{settings-by-blocks}
+use Rattle.blocks.proofs.ValueStays.{number-stays, text-stays}
+use Rattle.blocks.proofs.LastSetting.{set-or-table, among-exactly}
 use Rattle.blocks.proofs.ConditionAnswer.{condition-answer, unspaced}
 use Rattle.isolation.specs.Isolation.{Comparable}
 use Rattle.isolation.proofs.SelectionIsolated.{isolation, two-calls}
@@ -260,18 +286,25 @@ pub field-refusals-have-offset-0 : (m : Memory) (datum : ℕ) (buffer : List ℕ
     → fieldOf m datum buffer δ .answer ≡ RefusedField r → placed (r .number) ≡ false → r .offset .0 ≡ 0
 field-refusals-have-offset-0 = field-unplaced
 
--- A selection that is refused with a number from 3 to 12 is so at a line with an `!if` or an `!elseif`, whose text is refused with that number;
--- the offset is where the text starts in the line plus the offset in the text, and at most the line's length. With any other number it is 0.
+-- A selection that is refused with a number from 3 to 12 is so at a line with an `!if` or an `!elseif`, or at a kept DEFINE line, whose expression
+-- is refused with that number over the table and the settings that the lines before it made; the offset is where the expression starts in the
+-- line plus the offset in the expression, and at most the line's length. With any other number it is 0. `Reaches t ls n s δ` is that s is the
+-- state before line n of the lines ls, of which no earlier one is refused; there is at most one.
 pub selection-place : (f t : List ℕ) (δ : Dialect) (x : Fault) (n room : ℕ) → selection f t room δ ≡ refused x n
-    → placed (x .number) ≡ true → PlacedIn t (getD (lines f) (n - 1) []) x δ
+    → placed (x .number) ≡ true → (s : State) × Reaches t (lines f) n s δ × PlacedIn t s (getD (lines f) (n - 1) []) x δ
 selection-place = selection-placed
 
 pub other-selections-have-offset-0 : (f t : List ℕ) (δ : Dialect) (x : Fault) (n room : ℕ) → selection f t room δ ≡ refused x n
     → placed (x .number) ≡ false → x .at .0 ≡ 0
 other-selections-have-offset-0 = selection-unplaced
 
+pub one-state-before-a-line : (t : List ℕ) (δ : Dialect) (ls : List (List ℕ)) (n : ℕ) (s s′ : State)
+    → Reaches t ls n s δ → Reaches t ls n s′ δ → s ≡ s′
+one-state-before-a-line = reaches-one
+
 -- LOOKUP BY HALVING (document 02, order 4). By its contract, `halving::find` gives what `halving` is, the count of its rounds included; a round
--- compares one name. By its contract `lookup` gives the setting of the record that `halving` finds.
+-- compares one name. By its contract `lookup` gives the setting of the record that `halving` finds. `lookup_in` looks first among the settings
+-- that lines made (order 6), which are no part of the table, from the front.
 
 -- No two records of a well-formed table have the same name.
 pub one-record-under-a-name : (t : List ℕ) → wellFormed t ≡ true
@@ -311,31 +344,36 @@ full-table-exists = full-table
 pub one-list-of-blocks : (ls : List (List ℕ)) (a b : Blocks) → DerivesBlocks ls a → DerivesBlocks ls b → a ≡ b
 one-list-of-blocks = blocks-unambiguous
 
--- Sound: the lines of an accepted selection derive blocks within the limits, and its marks and count are the meaning of the blocks.
+-- Sound: the lines of an accepted selection derive blocks within the limits, and its marks and count are the meaning of the blocks, with the
+-- settings `own` after the last line. The first line has none before it.
 pub selection-sound : (f t : List ℕ) (δ : Dialect) (room : ℕ) (ms : List ℕ) (c : ℕ) → selection f t room δ ≡ accepted ms c
-    → (bs : Blocks) × DerivesBlocks (lines f) bs × (depth bs ≤ 16) × WithinLimit (lines f) × (meaning t true bs δ ≡ means ms c)
+    → (bs : Blocks) × DerivesBlocks (lines f) bs × (depth bs ≤ 16) × WithinLimit (lines f)
+    × (own : List Own) × (meaning t [] true bs δ ≡ means ms c own)
 selection-sound = sound
 
 -- Complete: if nothing is refused before the first line (1, 14, 15, 16) and the lines derive blocks within the limits, the selection is the
 -- meaning of the blocks, a fault with its line included.
 pub selection-complete : (f t : List ℕ) (δ : Dialect) (room : ℕ) (bs : Blocks)
     → wellFormed t ≡ true → length f ≤ 65536 → length (lines f) ≤ 4096 → length (lines f) ≤ room
-    → DerivesBlocks (lines f) bs → depth bs ≤ 16 → WithinLimit (lines f) → selection f t room δ ≡ resultOf (meaning t true bs δ)
+    → DerivesBlocks (lines f) bs → depth bs ≤ 16 → WithinLimit (lines f) → selection f t room δ ≡ resultOf (meaning t [] true bs δ)
 selection-complete = complete
 
 -- The same for the run over lines that a selection makes after its first checks.
 pub run-is-complete : (t : List ℕ) (δ : Dialect) (ls : List (List ℕ)) (bs : Blocks) → DerivesBlocks ls bs → depth bs ≤ 16 → WithinLimit ls
-    → run t 1 start ls δ ≡ resultOf (meaning t true bs δ)
+    → run t 1 start ls δ ≡ resultOf (meaning t [] true bs δ)
 run-is-complete = run-complete
 
 -- An accepted selection has one mark per line.
 pub one-mark-per-line : (f t : List ℕ) (δ : Dialect) (room : ℕ) (ms : List ℕ) (c : ℕ) → selection f t room δ ≡ accepted ms c → length ms ≡ length (lines f)
 one-mark-per-line = marks-each-line
 
--- In an accepted selection a line is a directive that is read, by the reading rule over blocks, exactly if its mark is 3, 4 or 5.
+-- In an accepted selection a line is read, by the reading rule over blocks, exactly if its mark is 3, 4, 5 or 6, and it is a kept DEFINE line
+-- exactly if its mark is 6; any other line that is read is a directive.
 pub marks-show-reading : (f t : List ℕ) (δ : Dialect) (room : ℕ) (ms : List ℕ) (c : ℕ) → selection f t room δ ≡ accepted ms c
     → (bs : Blocks) → DerivesBlocks (lines f) bs → (i : ℕ) → i < length (lines f)
-    → ((getD (readsOf t true bs δ) i false ≡ true) ↔ (3 ≤ getD ms i 0)) × (getD ms i 0 ≤ 5)
+    → ((getD (readsOf t [] true bs δ) i false ≡ true) ↔ (3 ≤ getD ms i 0))
+    × ((getD ms i 0 ≡ 6) ↔ ((getD (readsOf t [] true bs δ) i false ≡ true) × (isDefine (getD (lines f) i []) ≡ true)))
+    × (getD ms i 0 ≤ 6)
 marks-show-reading = marks-tell-reading
 
 -- A run is refused with a fault x, its number and its place in the line, at line n exactly if line n is the first line with a reason to be
@@ -345,9 +383,9 @@ pub refused-exactly : (t : List ℕ) (δ : Dialect) (ls : List (List ℕ)) (x : 
     → (run t 1 start ls δ ≡ refused x n) ↔ (RefusedAt t ls x n δ ⊎ ((x ≡ unplaced 21) × RefusedAtEnd t ls n δ))
 refused-exactly = refused-by-blocks
 
--- No two reasons share a number: a fault in the text of a directive never has a number from 17 to 21.
+-- No two reasons share a number: a fault in the text of a directive or of a DEFINE line never has a number from 17 to 21.
 pub faults-have-other-numbers : (t : List ℕ) (δ : Dialect) (bs : Blocks) (x : Fault) (i : ℕ)
-    → meaning t true bs δ ≡ fault x i → 17 ≤ x .number → x .number ≤ 21 → ⊥
+    → meaning t [] true bs δ ≡ fault x i → 17 ≤ x .number → x .number ≤ 21 → ⊥
 faults-have-other-numbers = fault-numbers
 
 -- At most one line is the innermost open `!if`.
@@ -367,13 +405,16 @@ pub condition-is-an-answer : (t : List ℕ) (d : Directive) (s : List ℕ) (δ :
     → evaluate t d s δ ≡ ofAnswer (evaluationIn (over s t) (inDirectives δ))
 condition-is-an-answer = condition-answer
 
--- No directive is refused with 8, whatever its text is, and no selection is.
+-- No directive is refused with 8, whatever its text is. A selection is refused with 8, and with 27 or 28, only at a kept DEFINE line, where bars
+-- are as in a data field.
 pub directive-never-8 : (t : List ℕ) (d : Directive) (s : List ℕ) (δ : Dialect) (o : ℕ)
     → evaluate t d s δ ≡ RefusedCondition (faultAt BAR-OUTSIDE o) → ⊥
 directive-never-8 = never-bar
 
-pub selection-never-8 : (f t : List ℕ) (δ : Dialect) (o n room : ℕ) → selection f t room δ ≡ refused (faultAt BAR-OUTSIDE o) n → ⊥
-selection-never-8 = selection-never-bar
+pub define-lines-only : (f t : List ℕ) (δ : Dialect) (x : Fault) (n room : ℕ) → selection f t room δ ≡ refused x n
+    → (x .number ≡ BAR-OUTSIDE) ⊎ ((x .number ≡ DEFINED-MANY) ⊎ (x .number ≡ DEFINED-LONG))
+    → (s : State) × Reaches t (lines f) n s δ × (defines s (getD (lines f) (n - 1) []) ≡ true)
+define-lines-only = define-only
 
 -- Nothing else differs in directives: a text has the same tokens there, and the same answer if that is not 8.
 pub bars-leave-tokens : (e : List ℕ) (δ : Dialect) → reading e (inDirectives δ) ≡ reading e δ
@@ -498,11 +539,163 @@ pub old-accepts-selections : (t : List ℕ) (δ : Dialect) (f : List ℕ) (room 
     → selection f t room (inNew δ) ≡ accepted ms c → selection f t room (inOld δ) ≡ accepted ms c
 old-accepts-selections = same-accepted
 
--- ISOLATION (demand 3)
+-- DEFINE INSIDE THE FILE (document 02, order 6). `definitionOf o t l δ` is what a kept line l with the first word `DEFINE` says after the settings
+-- o that the lines before it made: the setting x that it makes and its count of operators, or its refusal. The settings are then `put x o`.
+-- `scope o t` is the table t with the records of o in front of it. The names in the line's own expression are looked up in it, and with the new
+-- setting in front those in the lines after it, also after `!ifdef`; `settingUnder` of a name there is what `$(NAME)` means.
 
--- A second selection has the same marks and count as an accepted one if its file has as many lines, with the same words, the directives
--- that the first one read have the same bytes, the tables have the same records under the names in these, the second table is well formed,
--- and the second file, its lines and its marks keep the limits of 14, 17 and 16. Both are read in one dialect, so in one edition.
+-- The first word of a line is `DEFINE` exactly if the line is blanks or nothing, `DEFINE`, and then nothing or a byte that is no letter, no digit
+-- and no `_`.
+pub define-is-the-first-word : (l : List ℕ) → (isDefine l ≡ true) ↔ ((r : List ℕ) × DefineFirst l r)
+define-is-the-first-word = define-first
+
+-- The shape of a DEFINE line as a text: blanks or nothing, `DEFINE`, blanks, a macro's name, blanks or nothing, `=` and an expression. No line
+-- reads so in two ways. If the name has at most 64 bytes, and only then, the tests by places accept the line; they find the name, the expression
+-- and its start.
+pub define-lines-have-their-parts : (l name e : List ℕ) → DefineLine l name e
+    → (isDefine l ≡ true) × (shaped l ≡ true) × (macroOf l ≡ name) × (expressionOf l ≡ e) × (expressionStart l + length e ≡ length l)
+define-lines-have-their-parts = line-parts
+
+pub shaped-lines-are-define-lines : (l : List ℕ) → isDefine l ≡ true → shaped l ≡ true → DefineLine l (macroOf l) (expressionOf l)
+shaped-lines-are-define-lines = parts-line
+
+pub define-lines-read-one-way : (l n e n′ e′ : List ℕ) → DefineText l n e → DefineText l n′ e′ → (n ≡ n′) × (e ≡ e′)
+define-lines-read-one-way = line-once
+
+-- What a line of this shape says follows from the answer to its expression by the rules of `Says`, which give one thing only; its expression
+-- starts at byte `length l - length e`. A line with the first word `DEFINE` and another shape is refused with 22, and so is one with a name of
+-- more than 64 bytes.
+pub define-lines-say : (o : List Own) (t l : List ℕ) (δ : Dialect) (name e : List ℕ) → DefineLine l name e
+    → Says o name (length l - length e) (evaluationIn (over e (scope o t)) (byItself (δ .old))) (definitionOf o t l δ)
+define-lines-say = line-says
+
+pub define-lines-say-one-thing : (o : List Own) (name : List ℕ) (p : ℕ) {x : Evaluation} {d d′ : Definition}
+    → Says o name p x d → Says o name p x d′ → d ≡ d′
+define-lines-say-one-thing = says-once
+
+pub other-shapes-are-refused : (o : List Own) (t l : List ℕ) (δ : Dialect) → isDefine l ≡ true → ((name e : List ℕ) → DefineLine l name e → ⊥)
+    → definitionOf o t l δ ≡ failing (unplaced 22)
+other-shapes-are-refused = other-shape
+
+pub long-names-are-refused : (o : List Own) (t l : List ℕ) (δ : Dialect) (name e : List ℕ) → DefineText l name e → 64 < length name
+    → definitionOf o t l δ ≡ failing (unplaced 22)
+long-names-are-refused = long-name-refused
+
+-- Such a line changes one record: the one under the name of its macro is that of the new setting, and under every other name it is as before.
+pub define-sets-its-name : (o : List Own) (x : Own) (k : ℕ) (t l : List ℕ) (δ : Dialect) → definitionOf o t l δ ≡ sets x k
+    → recordUnder (scope (put x o) t) (macroOf l) ≡ recordOf x
+define-sets-its-name = record-set
+
+pub define-leaves-other-names : (o : List Own) (x : Own) (k : ℕ) (t l : List ℕ) (δ : Dialect) → definitionOf o t l δ ≡ sets x k
+    → (n : List ℕ) → (n ≡ macroOf l → ⊥) → recordUnder (scope (put x o) t) n ≡ recordUnder (scope o t) n
+define-leaves-other-names = record-kept
+
+-- The settings win over the table: the record under a name is the table's only if no setting has the name. A name is set, as `!ifdef` tests, if
+-- a setting has it or the table does.
+pub settings-win-over-the-table : (o : List Own) (t n : List ℕ)
+    → recordUnder (scope o t) n ≡ pick (has n o) (recordAmong (map recordOf o) n) (recordUnder t n)
+settings-win-over-the-table = under-scope
+
+pub set-by-a-line-or-the-table : (o : List Own) (t n : List ℕ) → settingUnder (scope o t) n .found ≡ (has n o || settingUnder t n .found)
+set-by-a-line-or-the-table = found-scope
+
+-- The macro gets exactly the value of the line's expression, a number below 2^64 or a string with its kind and its bytes, whatever the table and
+-- the other settings are; the operators of the expression are counted.
+pub define-sets-a-number : (o : List Own) (x : Own) (k : ℕ) (t l : List ℕ) (δ : Dialect) → definitionOf o t l δ ≡ sets x k
+    → (v c : ℕ) → evaluationIn (over (expressionOf l) (scope o t)) (byItself (δ .old)) ≡ value (numberValue v) c → v < 2 ^ 64
+    → (settingUnder (scope (put x o) t) (macroOf l) ≡ setTo (Number v)) × (k ≡ c)
+define-sets-a-number = line-number
+
+pub define-sets-a-string : (o : List Own) (x : Own) (k : ℕ) (t l : List ℕ) (δ : Dialect) → definitionOf o t l δ ≡ sets x k
+    → (j : TextKind) (p : Place) (w : List ℕ) (c : ℕ) → evaluationIn (over (expressionOf l) (scope o t)) (byItself (δ .old)) ≡ value (text j p w) c
+    → ((q : Place) × (settingUnder (scope (put x o) t) (macroOf l) ≡ setTo (Text j q))
+    × (take (q .len) (drop (q .start .0) (scope (put x o) t)) ≡ w)) × (k ≡ c)
+define-sets-a-string = line-text
+
+-- The settings line by line: the first line has none before it, a line that is no kept DEFINE line leaves them, and a kept one puts the
+-- setting that it makes among them. In an accepted selection the kept DEFINE lines are those with mark 6.
+pub no-settings-at-first : (t : List ℕ) (δ : Dialect) (ls : List (List ℕ)) (s : State) → Reaches t ls 1 s δ → s .own ≡ []
+no-settings-at-first = none-first
+
+pub other-lines-leave-settings : (t : List ℕ) (δ : Dialect) (ls : List (List ℕ)) (n : ℕ) → 1 ≤ n → n ≤ length ls
+    → (s s′ : State) → Reaches t ls n s δ → Reaches t ls (n + 1) s′ δ → defines s (getD ls (n - 1) []) ≡ false → s′ .own ≡ s .own
+other-lines-leave-settings = line-leaves
+
+pub define-lines-make-settings : (t : List ℕ) (δ : Dialect) (ls : List (List ℕ)) (n : ℕ) → 1 ≤ n → n ≤ length ls
+    → (s s′ : State) → Reaches t ls n s δ → Reaches t ls (n + 1) s′ δ → defines s (getD ls (n - 1) []) ≡ true
+    → (x : Own) × (k : ℕ) × (definitionOf (s .own) t (getD ls (n - 1) []) δ ≡ sets x k) × (s′ .own ≡ put x (s .own))
+define-lines-make-settings = line-puts
+
+pub define-lines-have-mark-6 : (f t : List ℕ) (δ : Dialect) (room : ℕ) (ms : List ℕ) (c : ℕ) → selection f t room δ ≡ accepted ms c
+    → (n : ℕ) → 1 ≤ n → n ≤ length (lines f)
+    → (s : State) × Reaches t (lines f) n s δ × ((defines s (getD (lines f) (n - 1) []) ≡ true) ↔ (getD ms (n - 1) 0 ≡ 6))
+define-lines-have-mark-6 = defines-marked
+
+-- By blocks: with some `!endif` lines after them, the lines before line n derive blocks, and the settings before line n are those that the meaning
+-- of these blocks ends with.
+pub settings-are-those-of-blocks : (t : List ℕ) (δ : Dialect) (ls : List (List ℕ)) (n : ℕ) (s : State) → Reaches t ls n s δ
+    → (k : ℕ) × (bs : Blocks) × DerivesBlocks (take (n - 1) ls ++ replicate k (bytes "!endif")) bs × (depth bs ≤ 16)
+    × (ms : List ℕ) × (c : ℕ) × (meaning t [] true bs δ ≡ means ms c (s .own))
+settings-are-those-of-blocks = settings-by-blocks
+
+-- The value is settled at the line: from line a, which sets a macro, to line b, if no kept DEFINE line between them sets it again, the macro has
+-- the value that the expression had at line a, whatever these lines are.
+pub number-is-settled : (t : List ℕ) (δ : Dialect) (ls : List (List ℕ)) (a b : ℕ) (s s′ : State) → SetsUntil t ls a b s s′ δ
+    → (v c : ℕ) → evaluationIn (over (expressionOf (getD ls (a - 1) [])) (scope (s .own) t)) (byItself (δ .old)) ≡ value (numberValue v) c → v < 2 ^ 64
+    → settingUnder (scope (s′ .own) t) (macroOf (getD ls (a - 1) [])) ≡ setTo (Number v)
+number-is-settled = number-stays
+
+pub string-is-settled : (t : List ℕ) (δ : Dialect) (ls : List (List ℕ)) (a b : ℕ) (s s′ : State) → SetsUntil t ls a b s s′ δ
+    → (j : TextKind) (p : Place) (w : List ℕ) (c : ℕ)
+    → evaluationIn (over (expressionOf (getD ls (a - 1) [])) (scope (s .own) t)) (byItself (δ .old)) ≡ value (text j p w) c
+    → (q : Place) × (settingUnder (scope (s′ .own) t) (macroOf (getD ls (a - 1) [])) ≡ setTo (Text j q))
+    × (take (q .len) (drop (q .start .0) (scope (s′ .own) t)) ≡ w)
+string-is-settled = text-stays
+
+-- At every line, the record under a name is that of the last kept DEFINE line before it with this macro, and the table's if there is none.
+pub last-define-or-the-table : (t : List ℕ) (δ : Dialect) (ls : List (List ℕ)) (n : List ℕ) (b : ℕ) → 1 ≤ b → b ≤ length ls + 1
+    → (s : State) → Reaches t ls b s δ → SetBefore t ls b n s δ ⊎ NotSetBefore t ls b n s δ
+last-define-or-the-table = set-or-table
+
+-- The settings have exactly the macros of the kept DEFINE lines so far as their names; no name is there twice (below), so there are as many of
+-- them as different macros that lines have set, which is what 27 counts.
+pub settings-are-the-macros-set : (t : List ℕ) (δ : Dialect) (ls : List (List ℕ)) (n : List ℕ) (b : ℕ) → 1 ≤ b → b ≤ length ls + 1
+    → (s : State) → Reaches t ls b s δ
+    → (has n (s .own) ≡ true) ↔ ((a : ℕ) × (q : State) × (1 ≤ a) × (a < b) × Reaches t ls a q δ
+    × (defines q (getD ls (a - 1) []) ≡ true) × (macroOf (getD ls (a - 1) []) ≡ n))
+settings-are-the-macros-set = among-exactly
+
+-- At every line there are at most 64 settings. Each has the name of a macro, no two have the same name, so that 64 settings are 64 different
+-- names, and the record of each by itself is a well-formed table.
+pub at-most-64-settings : (t : List ℕ) (δ : Dialect) (ls : List (List ℕ)) (n : ℕ) (s : State) → Reaches t ls n s δ → length (s .own) ≤ 64
+at-most-64-settings = reached-few
+
+pub settings-are-macros : (t : List ℕ) (δ : Dialect) (ls : List (List ℕ)) (n : ℕ) (s : State) → Reaches t ls n s δ → AllMacros (s .own)
+settings-are-macros = reached-macros
+
+pub settings-have-different-names : (t : List ℕ) (δ : Dialect) (ls : List (List ℕ)) (n : ℕ) (s : State) → Reaches t ls n s δ → AllDiffer (s .own)
+settings-have-different-names = reached-differ
+
+pub settings-are-well-formed : (t : List ℕ) (δ : Dialect) (ls : List (List ℕ)) (n : ℕ) (s : State) → Reaches t ls n s δ
+    → (x : Own) → List·Memᴰ x (s .own) → wellFormed (recordOf x) ≡ true
+settings-are-well-formed = reached-records
+
+-- So a PCD comes from the table alone, and no DEFINE line changes whether 9 is given for it.
+pub pcds-are-of-the-table : (t : List ℕ) (δ : Dialect) (ls : List (List ℕ)) (n : ℕ) (s : State) → Reaches t ls n s δ
+    → (p : List ℕ) → IsPcd p → recordUnder (scope (s .own) t) p ≡ recordUnder t p
+pcds-are-of-the-table = pcd-record
+
+pub pcds-are-set-by-the-table : (t : List ℕ) (δ : Dialect) (ls : List (List ℕ)) (n : ℕ) (s : State) → Reaches t ls n s δ
+    → (p : List ℕ) → IsPcd p → settingUnder (scope (s .own) t) p .found ≡ settingUnder t p .found
+pcds-are-set-by-the-table = pcd-there
+
+-- ISOLATION (demand 3, as order 6 restates it)
+
+-- A second selection has the same marks and count as an accepted one if its file has as many lines, with the same words, the lines that the
+-- first one read have the same bytes, the tables have the same records under the names in these, no plain line that the first one kept gets
+-- `DEFINE` as its first word, well shaped or not, the second table is well formed, and the second file, its lines and its marks keep the limits
+-- of 14, 17 and 16. A kept DEFINE line counts as a directive that is read, and so stays; it names the macros and PCDs of its expression. DEFINE
+-- lines in branches that are not taken are free. Both selections are in one dialect, so in one edition.
 pub isolated : (δ : Dialect) (f₁ t₁ : List ℕ) (room₁ : ℕ) (ms : List ℕ) (c : ℕ) → selection f₁ t₁ room₁ δ ≡ accepted ms c
     → (f₂ t₂ : List ℕ) (room₂ : ℕ) → Comparable f₁ t₁ ms f₂ t₂ room₂ δ → selection f₂ t₂ room₂ δ ≡ accepted ms c
 isolated = isolation

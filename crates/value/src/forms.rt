@@ -10,11 +10,12 @@ use lookup::Value;
 use text::parts;
 use units::Offset;
 ghost use mathlib.Core.Path.{_≡_};
-ghost use mathlib.Core.Bool.{true};
-ghost use Prim.Native.Nat.{_+_, _-_, _^_, _<_};
+ghost use Prim.Native.Nat.{_+_, _-_, _%_, _^_, _<_};
+ghost use lib.ListN.{length};
 ghost use Rattle.text.specs.Bytes.{pick};
-ghost use Rattle.settings.specs.Table.{ordered};
-ghost use Rattle.value.specs.Places.{Memory, over, inExpression};
+ghost use Rattle.lookup.specs.Setting.{settingUnder, Looked, Recorded};
+ghost use mathlib.Core.List.{_++_};
+ghost use Rattle.value.specs.Places.{Memory, overAll, inExpression};
 ghost use Rattle.value.specs.Values.{denoteValue, settingOf};
 ghost use Rattle.value.specs.Attributes.{valued, primaryOf, unaryFrom, binaryFrom, firstArm, choiceFrom};
 ghost use Rattle.value.specs.Denote.{denoteAttributes, denoteToken};
@@ -50,21 +51,34 @@ fn size(k: Token) -> usize
     len as usize
 }
 
+// The setting under a name. Most files make no settings of their own.
+pub fn setting(own: &[u8], table: &[u8], name: &[u8]) -> Setting
+    requires { ⌜ Looked (now own) (now table) ⌝ }
+    ensures { λ r. ⌜ r ≡ settingUnder (now (own .entry) ++ now (table .entry)) (now (name .entry)) ⌝ }
+{
+    if own.len() == 0 {
+        lookup::lookup(table, name)
+    } else {
+        lookup::lookup_in(own, table, name)
+    }
+}
+
 // The setting under the name in a token.
-pub fn named(expr: &[u8], table: &[u8], k: Token) -> Setting
-    requires { ⌜ ordered (now table) ≡ true ⌝ }
-    ensures { λ r. ⌜ r ≡ settingOf (over (now (expr .entry)) (now (table .entry))) (denoteToken k) ⌝ }
+pub fn named(expr: &[u8], own: &[u8], table: &[u8], k: Token) -> Setting
+    requires { ⌜ Looked (now own) (now table) ⌝ }
+    ensures { λ r. ⌜ r ≡ settingOf (overAll (now (expr .entry)) (now (own .entry)) (now (table .entry))) (denoteToken k) ⌝ }
 {
     let from = place(k).0;
     let len = size(k);
     let code = k.code;
     if code == codes::MACRO {
-        lookup::lookup(
+        setting(
+            own,
             table,
             parts::part(expr, Offset(from + 2), saturating_sub(len, 3)),
         )
     } else {
-        lookup::lookup(table, parts::part(expr, Offset(from), len))
+        setting(own, table, parts::part(expr, Offset(from), len))
     }
 }
 
@@ -81,11 +95,11 @@ fn plain(value: Value) -> Attributes
 }
 
 // The attributes of a name: those of its setting's value.
-fn of_name(expr: &[u8], table: &[u8], k: Token) -> Attributes
-    requires { ⌜ ordered (now table) ≡ true ⌝ }
-    ensures { λ r. ⌜ denoteAttributes (over (now (expr .entry)) (now (table .entry))) r ≡ valued (denoteValue (over (now (expr .entry)) (now (table .entry))) (settingOf (over (now (expr .entry)) (now (table .entry))) (denoteToken k) .value)) ⌝ }
+fn of_name(expr: &[u8], own: &[u8], table: &[u8], k: Token) -> Attributes
+    requires { ⌜ Looked (now own) (now table) ⌝ }
+    ensures { λ r. ⌜ denoteAttributes (overAll (now (expr .entry)) (now (own .entry)) (now (table .entry))) r ≡ valued (denoteValue (overAll (now (expr .entry)) (now (own .entry)) (now (table .entry))) (settingOf (overAll (now (expr .entry)) (now (own .entry)) (now (table .entry))) (denoteToken k) .value)) ⌝ }
 {
-    let s = named(expr, table, k);
+    let s = named(expr, own, table, k);
     let value = s.value;
     plain(value)
 }
@@ -104,17 +118,17 @@ fn inner(k: Token, before: usize, around: usize) -> Place
 }
 
 // The attributes of a primary.
-pub fn of_primary(expr: &[u8], table: &[u8], k: Token) -> Attributes
-    requires { ⌜ ordered (now table) ≡ true ⌝ }
-    ensures { λ r. ⌜ denoteAttributes (over (now (expr .entry)) (now (table .entry))) r ≡ primaryOf (over (now (expr .entry)) (now (table .entry))) (denoteToken k) ⌝ }
+pub fn of_primary(expr: &[u8], own: &[u8], table: &[u8], k: Token) -> Attributes
+    requires { ⌜ Looked (now own) (now table) ⌝ }
+    ensures { λ r. ⌜ denoteAttributes (overAll (now (expr .entry)) (now (own .entry)) (now (table .entry))) r ≡ primaryOf (overAll (now (expr .entry)) (now (own .entry)) (now (table .entry))) (denoteToken k) ⌝ }
 {
     let code = k.code;
     match code {
         codes::STRING => plain(Value::Text(TextKind::String, inner(k, 1, 2))),
         codes::WIDE => plain(Value::Text(TextKind::Wide, inner(k, 2, 3))),
         codes::BARE => plain(Value::Text(TextKind::String, inner(k, 0, 0))),
-        codes::MACRO => of_name(expr, table, k),
-        codes::PCD => of_name(expr, table, k),
+        codes::MACRO => of_name(expr, own, table, k),
+        codes::PCD => of_name(expr, own, table, k),
         _ => plain(Value::Number(k.value)),
     }
 }
@@ -144,13 +158,14 @@ fn unless(skip: bool, n: usize) -> usize
 
 pub fn of_binary<'a>(
     expr: &'a [u8],
+    own: &'a [u8],
     table: &'a [u8],
     o: Token,
     a: Attributes,
     b: Attributes,
 ) -> Attributes
-    requires { ⌜ a .count + b .count + 1 < 2 ^ 64 ⌝ }
-    ensures { λ r. ⌜ denoteAttributes (over (now (expr .entry)) (now (table .entry))) r ≡ binaryFrom (denoteToken o) (denoteAttributes (over (now (expr .entry)) (now (table .entry))) a) (denoteAttributes (over (now (expr .entry)) (now (table .entry))) b) ⌝ }
+    requires { ⌜ (a .count + b .count + 1 < 2 ^ 64) × (length (now own) % 128 ≡ 0) × Recorded (a .value) × Recorded (b .value) ⌝ }
+    ensures { λ r. ⌜ denoteAttributes (overAll (now (expr .entry)) (now (own .entry)) (now (table .entry))) r ≡ binaryFrom (denoteToken o) (denoteAttributes (overAll (now (expr .entry)) (now (own .entry)) (now (table .entry))) a) (denoteAttributes (overAll (now (expr .entry)) (now (own .entry)) (now (table .entry))) b) ⌝ }
 {
     let code = o.code;
     let j = a.kind;
@@ -160,7 +175,7 @@ pub fn of_binary<'a>(
     let at = place(o);
     let kind = kinds::of_binary(code, o.start, j, k);
     let skip = values::skips(code, v);
-    let value = values::binary(expr, table, code, at, skip, v, w);
+    let value = values::binary(expr, own, table, code, at, skip, v, w);
     let right = unless(skip, b.count);
     Attributes {
         kind,

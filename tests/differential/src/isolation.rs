@@ -1,11 +1,13 @@
 //! Demand 3: what an accepted run does not read makes no difference. Pairs of
 //! files and tables that agree in what is read must get the same answer from
-//! the library, in either edition; both runs of a pair are in the same one.
-//! Changes of what is read must show.
+//! the library, in either edition; both runs of a pair are in the same one. A
+//! DEFINE line that is kept counts as read (document 02, order 6), and no other
+//! kept line becomes one. Changes of what is read must show.
 
 use oracle::{Edition, EDITIONS};
 
 use crate::bars;
+use crate::definitions;
 use crate::editions;
 use crate::gen::settings::{self, Names};
 use crate::gen::{disturbed, files, short_files, tables, twins};
@@ -36,8 +38,8 @@ impl Subject for Isolation {
         &[]
     }
 
-    fn never(&self) -> &'static [u8] {
-        &[oracle::refusal::BAR]
+    fn excess(&self, met: &Tally) -> Option<String> {
+        bars::excess(met)
     }
 
     /// Without this a library that always gives the same answer would pass.
@@ -47,6 +49,7 @@ impl Subject for Isolation {
             .then(|| format!("of {pairs} accepted files, changes showed {showed} times only"))
             .or_else(|| bars::lack(random))
             .or_else(|| editions::lack_in_files(random))
+            .or_else(|| definitions::lack_in_accepted(random))
     }
 
     fn fixed(&self, tally: &mut Tally) -> Result<(), Mismatch> {
@@ -94,6 +97,7 @@ fn pair(
     let answer = call(&first, edition, rng.next())?;
     tally.add(answer.refusal, answer.offset);
     if answer.refusal != 0 {
+        definitions::count_refusal(file, answer.refusal, answer.line, tally);
         return Ok(false);
     }
     // Which directives are read is decided by the oracle, not by the library under test.
@@ -106,6 +110,7 @@ fn pair(
         });
     };
     tally.with_bars += u64::from(bars::in_read_condition(file, &marks, edition));
+    definitions::count_accepted(file, table, edition, &marks, tally);
     if edition == Edition::Old {
         editions::count_file(file, &marks, tally);
     }

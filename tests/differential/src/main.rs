@@ -8,6 +8,7 @@
 
 mod bars;
 mod crash;
+mod definitions;
 mod editions;
 mod evaluations;
 mod fields;

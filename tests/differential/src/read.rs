@@ -1,5 +1,6 @@
 //! What an accepted run reads.
 
+use oracle::definition::{after_define, shape, Definition};
 use oracle::lines::{lines, sort, Line, Word};
 use oracle::selection::mark;
 
@@ -16,4 +17,15 @@ pub fn branches<'a>(
             Ok(Line::Directive { word, argument }) => Some((word, argument)),
             _ => None,
         })
+}
+
+/// The DEFINE lines that are kept and set a macro.
+pub fn definitions<'a>(
+    file: &'a [u8],
+    marks: &'a [u8],
+) -> impl Iterator<Item = Definition<'a>> + use<'a> {
+    lines(file)
+        .zip(marks)
+        .filter(|(_, mark)| **mark == mark::DEFINE)
+        .filter_map(|(line, _)| shape(after_define(line)?))
 }

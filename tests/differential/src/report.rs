@@ -2,6 +2,8 @@
 
 use std::fmt::Write;
 
+use crate::definitions::Definitions;
+
 /// A case on which the two implementations differ.
 pub struct Mismatch {
     pub what: String,
@@ -25,6 +27,7 @@ pub struct Tally {
     /// Files that the old edition accepts with `$(NAME)` after an `!ifdef` or
     /// `!ifndef` that is read.
     pub with_brackets: u64,
+    pub definitions: Definitions,
 }
 
 impl Tally {
@@ -36,6 +39,7 @@ impl Tally {
             with_bars: 0,
             with_bare_words: [0; 256],
             with_brackets: 0,
+            definitions: Definitions::new(),
         }
     }
 
@@ -45,9 +49,9 @@ impl Tally {
     }
 
     /// What matters to some subjects, and how often it was met.
-    pub fn besides(&self) -> [(u64, &'static str); 4] {
+    pub fn besides(&self) -> impl Iterator<Item = (u64, &'static str)> {
         let [accepted, refused @ ..] = self.with_bare_words;
-        [
+        let besides = [
             (
                 self.with_bars,
                 "accepted with a bar outside parentheses in a read condition",
@@ -58,7 +62,8 @@ impl Tally {
                 self.with_brackets,
                 "accepted with `$(NAME)` after `!ifdef` or `!ifndef`",
             ),
-        ]
+        ];
+        besides.into_iter().chain(self.definitions.besides())
     }
 
     pub fn met(&self, answer: u8) -> u64 {

@@ -1,13 +1,17 @@
-//! Marks of description files: refusals 1, 3 to 7 and 9 to 22 with their lines
+//! Marks of description files: refusals 1, 3 to 22, 27 and 28 with their lines
 //! and offsets, and every byte.
 
 use oracle::{Edition, EDITIONS};
 
 use crate::bars;
 use crate::crash;
+use crate::definitions;
 use crate::editions;
 use crate::gen::settings::{self, Names};
-use crate::gen::{bare_words, files, nested, refused_lines, rivals, short_files, tables, values};
+use crate::gen::{
+    bare_words, files, many_definitions, nested, refused_definitions, refused_lines, rivals,
+    short_files, tables, values,
+};
 use crate::lent::{Input, Shown};
 use crate::library::{self, Selected};
 use crate::prng::Prng;
@@ -31,16 +35,19 @@ impl Subject for Selections {
 
     fn needed(&self) -> &'static [u8] {
         &[
-            1, 3, 4, 5, 6, 7, 9, 10, 11, 12, 13, 14, 15, 16, 17, 18, 19, 20, 21, 22,
+            1, 3, 4, 5, 6, 7, 8, 9, 10, 11, 12, 13, 14, 15, 16, 17, 18, 19, 20, 21, 22, 27, 28,
         ]
     }
 
-    fn never(&self) -> &'static [u8] {
-        &[oracle::refusal::BAR]
+    fn excess(&self, met: &Tally) -> Option<String> {
+        bars::excess(met)
     }
 
     fn lacks(&self, random: &Tally) -> Option<String> {
-        bars::lack(random).or_else(|| editions::lack_in_files(random))
+        bars::lack(random)
+            .or_else(|| editions::lack_in_files(random))
+            .or_else(|| definitions::lack_in_accepted(random))
+            .or_else(|| definitions::lack_in_refused(random))
     }
 
     fn fixed(&self, tally: &mut Tally) -> Result<(), Mismatch> {
@@ -57,7 +64,7 @@ impl Subject for Selections {
                 case.compare(0x77, tally)?;
             }
         }
-        for file in refused_lines::all() {
+        for file in [refused_lines::all(), refused_definitions::all()].concat() {
             let case = Case {
                 file: &file,
                 table: &record,
@@ -65,10 +72,11 @@ impl Subject for Selections {
             };
             case.compare(0x78, tally)?;
         }
-        short_conditions(tally)?;
-        refused_conditions(tally)?;
+        short_expressions(tally)?;
+        refused_expressions(tally)?;
         bare_words(tally)?;
         long_names(tally)?;
+        many_definitions(tally)?;
         for room in 0..6 {
             for (index, file) in [&b""[..], b"\n", b"a\nb", b"!if 1\n!endif\n\n", b"!"]
                 .into_iter()
@@ -135,12 +143,17 @@ fn without_bytes(tally: &mut Tally) -> Result<(), Mismatch> {
     Ok(())
 }
 
-/// Conditions with several reasons to be refused, as `!if` and as `!elseif`.
-fn refused_conditions(tally: &mut Tally) -> Result<(), Mismatch> {
+/// Expressions with several reasons to be refused, of an `!if`, an `!elseif` and
+/// a DEFINE line.
+fn refused_expressions(tally: &mut Tally) -> Result<(), Mismatch> {
     let one_pcd = tables::record(b"g.P", 0, &[2, 0, 0, 0, 0, 0, 0, 0]);
     for expr in [nested::all(), rivals::pairs()].concat() {
-        for (front, room) in [(&b"\t!if "[..], 2), (b"!if 0\r\n!elseif\t", 3)] {
-            let file = [front, &expr, b"\r\n!endif"].concat();
+        for (front, back, room) in [
+            (&b"\t!if "[..], &b"\r\n!endif"[..], 2),
+            (b"!if 0\r\n!elseif\t", b"\r\n!endif", 3),
+            (b" DEFINE A =", b"\r\n!ifdef A\n!endif", 3),
+        ] {
+            let file = [front, &expr, back].concat();
             let case = Case {
                 file: &file,
                 table: &one_pcd,
@@ -152,31 +165,54 @@ fn refused_conditions(tally: &mut Tally) -> Result<(), Mismatch> {
     Ok(())
 }
 
-/// Conditions with bare words, and with what is nearly one.
+/// Conditions and DEFINE lines with bare words, and with what is nearly one.
 fn bare_words(tally: &mut Tally) -> Result<(), Mismatch> {
     let string = tables::record(b"S", 1, b"ab");
     for expr in bare_words::all() {
-        let file = [b"!if\t", &expr[..], b"\n!endif\n"].concat();
-        let case = Case {
-            file: &file,
-            table: &string,
-            room: 2,
-        };
-        case.compare(9, tally)?;
+        for (front, back, room) in [
+            (&b"!if\t"[..], &b"\n!endif\n"[..], 2),
+            (b"DEFINE S = ", b"\n", 1),
+        ] {
+            let file = [front, &expr[..], back].concat();
+            let case = Case {
+                file: &file,
+                table: &string,
+                room,
+            };
+            case.compare(9, tally)?;
+        }
     }
     Ok(())
 }
 
-/// Every condition of up to four tokens, bars outside parentheses among them.
-fn short_conditions(tally: &mut Tally) -> Result<(), Mismatch> {
+/// Every condition and every DEFINE line of up to four tokens, bars outside
+/// parentheses among them.
+fn short_expressions(tally: &mut Tally) -> Result<(), Mismatch> {
     for list in values::token_lists() {
-        let file = format!("!if{list}\n!endif");
+        for (front, back, room) in [("!if", "\n!endif", 2), ("DEFINE A =", "\n", 1)] {
+            let file = format!("{front}{list}{back}");
+            let case = Case {
+                file: file.as_bytes(),
+                table: b"",
+                room,
+            };
+            case.compare(6, tally)?;
+        }
+    }
+    Ok(())
+}
+
+/// About as many macros as DEFINE lines may set; the table has another one.
+fn many_definitions(tally: &mut Tally) -> Result<(), Mismatch> {
+    let table = tables::record(b"A", 0, &[0; 8]);
+    for file in many_definitions::all() {
+        let file = file.as_bytes();
         let case = Case {
-            file: file.as_bytes(),
-            table: b"",
-            room: 2,
+            file,
+            table: &table,
+            room: line_count(file),
         };
-        case.compare(6, tally)?;
+        case.compare(10, tally)?;
     }
     Ok(())
 }
@@ -187,15 +223,19 @@ fn long_names(tally: &mut Tally) -> Result<(), Mismatch> {
         let table = tables::record(&b"X".repeat(set), 0, &[0; 8]);
         for asked in 61..=67 {
             let name = "X".repeat(asked);
-            let file = format!(
+            let asks = format!(
                 "!ifdef {name}\na\n!endif\n!ifndef $({name})\nb\n!endif\n!if $({name}) == 0\n!endif"
             );
-            let case = Case {
-                file: file.as_bytes(),
-                table: &table,
-                room: 8,
-            };
-            case.compare(5, tally)?;
+            let defined = (61..=65).map(|len| format!("DEFINE {} = {len}\n", "X".repeat(len)));
+            for front in defined.chain([String::new()]) {
+                let file = format!("{front}{asks}");
+                let case = Case {
+                    file: file.as_bytes(),
+                    table: &table,
+                    room: 9,
+                };
+                case.compare(5, tally)?;
+            }
         }
     }
     Ok(())
@@ -275,6 +315,13 @@ impl Case<'_> {
         tally.add(expected.refusal, expected.offset);
         tally.extra += expected.lines;
         tally.with_bars += u64::from(bars::in_read_condition(self.file, &expected.marks, edition));
+        match expected.refusal {
+            0 => {
+                let marks = &expected.marks[..expected.lines as usize];
+                definitions::count_accepted(self.file, self.table, edition, marks, tally);
+            }
+            number => definitions::count_refusal(self.file, number, expected.line, tally),
+        }
         let given = given.map_err(|what| self.broken_memory(what))?;
         match difference(&expected, &given) {
             None => Ok(given),

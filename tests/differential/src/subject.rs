@@ -22,9 +22,10 @@ pub trait Subject {
     /// The refusals that the random cases have to meet.
     fn needed(&self) -> &'static [u8];
 
-    /// The refusals that no input may meet.
-    fn never(&self) -> &'static [u8] {
-        &[]
+    /// What no input may meet, if one did; it is asked of all inputs, the fixed
+    /// ones too.
+    fn excess(&self, _met: &Tally) -> Option<String> {
+        None
     }
 
     /// What else the random cases have to show, if they did not.
@@ -94,18 +95,21 @@ pub fn run(subject: &dyn Subject, load: &Load) -> bool {
     for number in 1..=u8::MAX {
         if random.met(number) > 0 {
             line += &format!(", refusal {number}: {}", random.met(number));
+            let in_definitions = random.definitions.refused[usize::from(number)];
+            if in_definitions > 0 {
+                line += &format!(" ({in_definitions} in DEFINE lines)");
+            }
         }
     }
     println!("{line} ({:.1} s)", started.elapsed().as_secs_f64());
 
     let mut complete = true;
-    for &number in subject.never() {
-        let met = fixed.met(number) + random.met(number);
-        if met > 0 {
-            let what = meaning(number);
-            println!("{name}: refusal {number} ({what}) was met {met} times, but never may be");
-            complete = false;
-        }
+    for what in [&fixed, &random]
+        .into_iter()
+        .filter_map(|met| subject.excess(met))
+    {
+        println!("{name}: {what}");
+        complete = false;
     }
     if load.only.is_none() {
         for &number in subject.needed() {

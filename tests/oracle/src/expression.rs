@@ -7,11 +7,13 @@ use crate::bytes::{count_while, is_blank};
 use crate::edition::Edition;
 use crate::kinds::leftmost_wrong;
 use crate::refusal::{self, Refusal};
-use crate::table::{is_well_formed, lookup, Setting};
+use crate::settings::Settings;
+use crate::table::is_well_formed;
 use crate::tokens::{bar_outside, code, scan, Scan, Token};
 use crate::tree::{parse, Node, NodeId, TokenId, Tree};
 
-/// A string value is the very part of the expression or table that holds it.
+/// A string value is the very part of the expression or table that holds it, or
+/// of a DEFINE line's expression.
 #[derive(Clone, Copy, Debug, PartialEq, Eq)]
 pub enum Value<'a> {
     Number(u64),
@@ -49,7 +51,8 @@ pub type Answer<'a> = Result<Outcome<'a>, Refusal>;
 /// Where `|` and `||` may be (document 02, order 1).
 #[derive(Clone, Copy, Debug, PartialEq, Eq)]
 pub(crate) enum Bars {
-    /// In parentheses only, else refusal 8: an expression by itself, a field.
+    /// In parentheses only, else refusal 8: an expression by itself, a field,
+    /// a DEFINE line.
     Enclosed,
     /// Anywhere: the condition of an `!if` or `!elseif`.
     Free,
@@ -60,13 +63,13 @@ pub fn evaluate<'a>(expr: &'a [u8], table: &'a [u8], edition: Edition) -> Answer
     if !is_well_formed(table) {
         return Err(Refusal::nowhere(refusal::TABLE));
     }
-    evaluate_with(expr, table, edition, Bars::Enclosed)
+    evaluate_with(expr, &Settings::of(table), edition, Bars::Enclosed)
 }
 
-/// As `evaluate`, for a table that is known to be well formed.
+/// As `evaluate`, for settings over a table that is known to be well formed.
 pub(crate) fn evaluate_with<'a>(
     expr: &'a [u8],
-    table: &'a [u8],
+    settings: &Settings<'a>,
     edition: Edition,
     bars: Bars,
 ) -> Answer<'a> {
@@ -80,7 +83,7 @@ pub(crate) fn evaluate_with<'a>(
     if let (Bars::Enclosed, Some(bar)) = (bars, bar_outside(&tokens)) {
         return Err(Refusal::at(refusal::BAR, bar.start));
     }
-    let operands = operands(expr, table, &tokens)?;
+    let operands = operands(expr, settings, &tokens)?;
     let kinds: Vec<Kind> = operands.iter().map(Value::kind).collect();
     if let Some(operator) = leftmost_wrong(&tree, &tokens, &kinds) {
         return Err(Refusal::at(refusal::KIND, tokens[operator].start));
@@ -111,16 +114,9 @@ fn breaking_place(expr: &[u8], tokens: &[Token]) -> usize {
 /// leftmost PCD that is missing is refused.
 fn operands<'a>(
     expr: &'a [u8],
-    table: &'a [u8],
+    settings: &Settings<'a>,
     tokens: &[Token],
 ) -> Result<Vec<Value<'a>>, Refusal> {
-    let setting = |name| {
-        lookup(table, name).map(|setting| match setting {
-            Setting::Number(number) => Value::Number(number),
-            Setting::Text { start, len } => Value::Text(&table[start..start + len]),
-            Setting::Wide { start, len } => Value::Wide(&table[start..start + len]),
-        })
-    };
     tokens
         .iter()
         .map(|token| {
@@ -129,8 +125,14 @@ fn operands<'a>(
                 code::TEXT => Value::Text(&bytes[1..bytes.len() - 1]),
                 code::BARE => Value::Text(bytes),
                 code::WIDE => Value::Wide(&bytes[2..bytes.len() - 1]),
-                code::MACRO => setting(&bytes[2..bytes.len() - 1]).unwrap_or(Value::Number(0)),
-                code::PCD => setting(bytes).ok_or(Refusal::at(refusal::PCD, token.start))?,
+                code::MACRO => {
+                    let value = settings.of_macro(&bytes[2..bytes.len() - 1]);
+                    value.unwrap_or(Value::Number(0))
+                }
+                code::PCD => {
+                    let value = settings.of_pcd(bytes);
+                    value.ok_or(Refusal::at(refusal::PCD, token.start))?
+                }
                 _ => Value::Number(token.value),
             })
         })

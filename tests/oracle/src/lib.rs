@@ -1,4 +1,4 @@
-//! A plain second implementation of document 01, and of orders 1, 3 and 5 of
+//! A plain second implementation of document 01, and of orders 1, 3, 5 and 6 of
 //! document 02.
 //!
 //! It exists to be compared with the product and to be timed against it, so
@@ -9,6 +9,7 @@
 mod arithmetic;
 pub mod beginning;
 pub mod bytes;
+pub mod definition;
 mod edition;
 pub mod expression;
 pub mod field;
@@ -16,6 +17,7 @@ mod kinds;
 pub mod lines;
 pub mod refusal;
 pub mod selection;
+pub mod settings;
 pub mod table;
 pub mod tokens;
 pub mod tree;

@@ -53,7 +53,8 @@ pub const TOKEN_COUNT: u8 = 5;
 pub const DEPTH: u8 = 6;
 /// The tokens form no expression.
 pub const GRAMMAR: u8 = 7;
-/// A `|` or `||` is outside all parentheses. No condition meets this.
+/// A `|` or `||` is outside all parentheses. No condition meets this, but a
+/// DEFINE line may.
 pub const BAR: u8 = 8;
 /// A PCD is named that the table does not hold.
 pub const PCD: u8 = 9;
@@ -81,7 +82,8 @@ pub const NESTING: u8 = 19;
 pub const GROUPS: u8 = 20;
 /// The file ends inside a group.
 pub const OPEN_END: u8 = 21;
-/// The text after the word of a read directive has the wrong form.
+/// The text after the word of a read directive or of a kept DEFINE line has
+/// the wrong form.
 pub const ARGUMENT: u8 = 22;
 /// The datum code is none of the known ones.
 pub const DATUM: u8 = 23;
@@ -91,6 +93,10 @@ pub const DATUM_KIND: u8 = 24;
 pub const DATUM_RANGE: u8 = 25;
 /// The field does not fit into the buffer.
 pub const BUFFER: u8 = 26;
+/// DEFINE lines set a 65th macro.
+pub const DEFINED_COUNT: u8 = 27;
+/// A DEFINE line sets a string of more than 56 bytes.
+pub const DEFINED_LENGTH: u8 = 28;
 
 /// A few words for a number, for reports.
 pub fn meaning(number: u8) -> &'static str {
@@ -116,11 +122,13 @@ pub fn meaning(number: u8) -> &'static str {
         NESTING => "directive out of place",
         GROUPS => "too many open groups",
         OPEN_END => "group still open at the end",
-        ARGUMENT => "malformed directive text",
+        ARGUMENT => "malformed text after the word",
         DATUM => "unknown datum code",
         DATUM_KIND => "kind does not suit the datum",
         DATUM_RANGE => "number too large for the datum",
         BUFFER => "field buffer too short",
+        DEFINED_COUNT => "too many macros set by DEFINE",
+        DEFINED_LENGTH => "string too long for DEFINE",
         _ => "no such refusal",
     }
 }

@@ -1,12 +1,14 @@
 //! Which lines of a file are kept (document 01, Lines and directives, and
-//! document 02, orders 1, 3 and 5).
+//! document 02, orders 1, 3, 5 and 6).
 
 use crate::bytes::{is_blank, macro_length, skip_blanks};
+use crate::definition::{after_define, shape, Definition};
 use crate::edition::Edition;
 use crate::expression::{evaluate_with, Bars, Value};
 use crate::lines::{lines, sort, Line, Word};
 use crate::refusal::{self, Refusal};
-use crate::table::{is_well_formed, lookup};
+use crate::settings::Settings;
+use crate::table::is_well_formed;
 
 pub const MAX_FILE: usize = 65_536;
 pub const MAX_LINES: usize = 4_096;
@@ -25,6 +27,7 @@ pub mod mark {
     pub const NOT_TAKEN: u8 = 3;
     pub const TAKEN: u8 = 4;
     pub const END: u8 = 5;
+    pub const DEFINE: u8 = 6;
     pub const REFUSED: u8 = 255;
 }
 
@@ -56,7 +59,7 @@ fn run(file: &[u8], table: &[u8], edition: Edition, marks: &mut [u8]) -> Selecti
         return Err((Refusal::nowhere(refusal::MARKS), 0));
     }
     let mut state = State {
-        table,
+        settings: Settings::of(table),
         edition,
         groups: Vec::new(),
         count: 0,
@@ -88,21 +91,22 @@ struct Group {
 }
 
 struct State<'a> {
-    table: &'a [u8],
+    settings: Settings<'a>,
     edition: Edition,
     groups: Vec<Group>,
     count: u64,
 }
 
-impl State<'_> {
+impl<'a> State<'a> {
     /// The mark of the next line, or its refusal.
-    fn step(&mut self, line: &[u8], number: usize) -> Result<u8, Refusal> {
+    fn step(&mut self, line: &'a [u8], number: usize) -> Result<u8, Refusal> {
         if line.len() > MAX_LINE {
             return Err(Refusal::nowhere(refusal::LINE_LENGTH));
         }
         let live = self.groups.last().is_none_or(|group| group.taken);
         match sort(line).map_err(Refusal::nowhere)? {
-            Line::Plain => Ok(if live { mark::KEPT } else { mark::DROPPED }),
+            Line::Plain if live => self.keep(line),
+            Line::Plain => Ok(mark::DROPPED),
             Line::Directive { word, argument } => {
                 let before = line.len() - argument.len();
                 match word {
@@ -118,10 +122,27 @@ impl State<'_> {
         }
     }
 
+    /// A plain line that is kept. If its first word is `DEFINE`, it sets a
+    /// macro from the next line on.
+    fn keep(&mut self, line: &'a [u8]) -> Result<u8, Refusal> {
+        let Some(text) = after_define(line) else {
+            return Ok(mark::KEPT);
+        };
+        let Definition { name, expression } = shape(text).ok_or(ARGUMENT)?;
+        let before = line.len() - expression.len();
+        let outcome = evaluate_with(expression, &self.settings, self.edition, Bars::Enclosed)
+            .map_err(|refusal| refusal.after(before))?;
+        self.settings
+            .define(name, outcome.value)
+            .map_err(Refusal::nowhere)?;
+        self.count += outcome.count;
+        Ok(mark::DEFINE)
+    }
+
     fn open(
         &mut self,
         word: Word,
-        argument: &[u8],
+        argument: &'a [u8],
         live: bool,
         line: usize,
     ) -> Result<u8, Refusal> {
@@ -141,7 +162,7 @@ impl State<'_> {
         Ok(branch_mark(live, taken))
     }
 
-    fn next_branch(&mut self, argument: &[u8]) -> Result<u8, Refusal> {
+    fn next_branch(&mut self, argument: &'a [u8]) -> Result<u8, Refusal> {
         let group = self.group_before_else()?;
         let read = group.around && !group.any_taken;
         let taken = read && self.condition(Word::Elseif, argument)?;
@@ -181,7 +202,7 @@ impl State<'_> {
 
     /// Reads the argument of a directive that has a condition. Places are
     /// counted from the start of the argument.
-    fn condition(&mut self, word: Word, argument: &[u8]) -> Result<bool, Refusal> {
+    fn condition(&mut self, word: Word, argument: &'a [u8]) -> Result<bool, Refusal> {
         if !argument.first().is_some_and(|&byte| is_blank(byte)) {
             return Err(ARGUMENT);
         }
@@ -189,7 +210,7 @@ impl State<'_> {
             Word::Ifdef => self.defined(argument),
             Word::Ifndef => Ok(!self.defined(argument)?),
             _ => {
-                let outcome = evaluate_with(argument, self.table, self.edition, Bars::Free)?;
+                let outcome = evaluate_with(argument, &self.settings, self.edition, Bars::Free)?;
                 self.count += outcome.count;
                 match outcome.value {
                     Value::Number(0) => Ok(false),
@@ -200,8 +221,8 @@ impl State<'_> {
         }
     }
 
-    /// Whether the one macro that the argument names is in the table. Only the
-    /// old edition takes it as `$(NAME)` too.
+    /// Whether the one macro that the argument names is set. Only the old
+    /// edition takes it as `$(NAME)` too.
     fn defined(&self, argument: &[u8]) -> Result<bool, Refusal> {
         let text = skip_blanks(argument);
         let (text, bracketed) = match (self.edition, text) {
@@ -216,7 +237,7 @@ impl State<'_> {
             rest = rest.strip_prefix(b")").ok_or(ARGUMENT)?;
         }
         check_nothing(rest)?;
-        Ok(lookup(self.table, name).is_some())
+        Ok(self.settings.of_macro(name).is_some())
     }
 }
 

@@ -7,6 +7,9 @@ pub const MAX_RECORDS: usize = 512;
 pub const NAME: usize = 64;
 pub const CONTENT: usize = 72;
 
+/// The most bytes of a string.
+pub const MAX_STRING: usize = RECORD - CONTENT;
+
 const KIND_AT: usize = 64;
 const LENGTH_AT: usize = 65;
 const UNUSED: std::ops::Range<usize> = 66..72;
@@ -39,7 +42,7 @@ fn is_well_formed_record(record: &[u8; RECORD]) -> bool {
     let length = usize::from(record[LENGTH_AT]);
     let length_fits = match record[KIND_AT] {
         NUMBER => length == 8,
-        TEXT | WIDE => length <= RECORD - CONTENT,
+        TEXT | WIDE => length <= MAX_STRING,
         _ => false,
     };
     is_name(name)
@@ -78,7 +81,7 @@ pub fn lookup(table: &[u8], name: &[u8]) -> Option<Setting> {
         .ok()?;
     let record = &records[index];
     let start = index * RECORD + CONTENT;
-    let len = usize::from(record[LENGTH_AT]).min(RECORD - CONTENT);
+    let len = usize::from(record[LENGTH_AT]).min(MAX_STRING);
     match record[KIND_AT] {
         NUMBER => {
             let (content, _) = record[CONTENT..].as_chunks::<8>();

@@ -1,10 +1,13 @@
 //! Demand 3 tried on random pairs of files and tables: what an accepted run
 //! does not read makes no difference. Conditions have bars outside parentheses
 //! too (document 02, order 1), and both runs are in the same edition (order 5).
+//! A DEFINE line that is kept counts as a read directive (order 6): it stays, and
+//! no other kept line becomes one; where it is dropped it is a plain line.
 
 mod common;
 
 use common::*;
+use oracle::definition::after_define;
 use oracle::lines::{lines, sort, Line, Word};
 use oracle::tokens::{code, scan};
 use oracle::{Edition, EDITIONS};
@@ -65,7 +68,10 @@ fn any_condition(rng: &mut Prng) -> String {
 fn any_lines(rng: &mut Prng, depth: usize, out: &mut Vec<String>) {
     for _ in 0..1 + rng.below(3) {
         if depth == 0 || rng.below(2) == 0 {
-            out.push(plain(rng).to_string());
+            out.push(match rng.below(2) {
+                0 => plain(rng).to_string(),
+                _ => any_define(rng),
+            });
             continue;
         }
         let name = rng.pick(&["A", "$(B)", "C #"]);
@@ -88,30 +94,68 @@ fn any_lines(rng: &mut Prng, depth: usize, out: &mut Vec<String>) {
     }
 }
 
+/// A plain line without the first word `DEFINE`.
 fn plain(rng: &mut Prng) -> &'static str {
-    rng.pick(&["", "x", "  x", "!include a", " !error", "!include9", "#"])
+    rng.pick(&[
+        "",
+        "x",
+        "  x",
+        "!include a",
+        " !error",
+        "!include9",
+        "#",
+        "DEFINED A = 1",
+        "# DEFINE A = 1",
+        "!include DEFINE A = 1",
+    ])
+}
+
+/// A DEFINE line that sets a macro, if it is kept.
+fn any_define(rng: &mut Prng) -> String {
+    let name = rng.pick(&["A", "B", "C"]);
+    let value = match rng.below(6) {
+        0 => rng.pick(&["'a'", "'b'", "L'a'"]).to_string(),
+        1 => format!("({})", any_condition(rng)),
+        2 => rng.pick(&["$(A)", "$(B)", "$(C)", "g.P"]).to_string(),
+        _ => rng.below(2).to_string(),
+    };
+    format!("{}DEFINE {name} = {value}", rng.pick(&["", " "]))
+}
+
+/// A line that is dropped: plain, and DEFINE or not.
+fn any_dropped(rng: &mut Prng) -> String {
+    match rng.below(3) {
+        0 => plain(rng).to_string(),
+        1 => any_define(rng),
+        _ => format!("DEFINE{}", rng.pick(&JUNK)),
+    }
 }
 
 fn any_end(rng: &mut Prng) -> &'static str {
     rng.pick(&["\n", "\r\n"])
 }
 
-/// The names that a read directive depends on. A bare word is none.
+fn string(bytes: &[u8]) -> String {
+    String::from_utf8(bytes.to_vec()).unwrap()
+}
+
+/// The macros and PCDs of an expression. A bare word is none.
+fn named_in_expression(expr: &[u8], edition: Edition) -> Vec<String> {
+    let name = |token: &oracle::Token| {
+        let bytes = &expr[token.start..token.start + token.len];
+        match token.code {
+            code::MACRO => Some(string(&bytes[2..bytes.len() - 1])),
+            code::PCD => Some(string(bytes)),
+            _ => None,
+        }
+    };
+    scan(expr, edition).tokens.iter().filter_map(name).collect()
+}
+
+/// The names that a read directive depends on.
 fn named(word: Word, argument: &[u8], edition: Edition) -> Vec<String> {
-    let string = |bytes: &[u8]| String::from_utf8(bytes.to_vec()).unwrap();
     match word {
-        Word::If | Word::Elseif => scan(argument, edition)
-            .tokens
-            .iter()
-            .filter_map(|token| {
-                let bytes = &argument[token.start..token.start + token.len];
-                match token.code {
-                    code::MACRO => Some(string(&bytes[2..bytes.len() - 1])),
-                    code::PCD => Some(string(bytes)),
-                    _ => None,
-                }
-            })
-            .collect(),
+        Word::If | Word::Elseif => named_in_expression(argument, edition),
         Word::Ifdef | Word::Ifndef => {
             let name = argument.iter().filter(|byte| byte.is_ascii_uppercase());
             vec![string(&name.copied().collect::<Vec<u8>>())]
@@ -128,6 +172,7 @@ fn is_test(word: Word) -> bool {
 fn unread_text_makes_no_difference() {
     let mut rng = Prng(3);
     let (mut accepted, mut with_bars, mut bare, mut bracketed) = ([0; 2], 0, 0, 0);
+    let (mut obeyed, mut dropped) = (0, [0; 2]);
     for turn in 0..40_000 {
         let edition = EDITIONS[turn % 2];
         let mut written = Vec::new();
@@ -145,6 +190,21 @@ fn unread_text_makes_no_difference() {
         let mut second = Vec::new();
         for (index, line) in lines(file.as_bytes()).enumerate() {
             match sort(line).unwrap() {
+                Line::Plain if marks[index] == 0 => {
+                    let other = any_dropped(&mut rng);
+                    // From DEFINE to another line, and the other way round.
+                    let is_define = after_define(line).is_some();
+                    if is_define != after_define(other.as_bytes()).is_some() {
+                        dropped[usize::from(is_define)] += 1;
+                    }
+                    second.extend(other.bytes());
+                }
+                Line::Plain if marks[index] == 6 => {
+                    obeyed += 1;
+                    let equals = line.iter().position(|&byte| byte == b'=').unwrap();
+                    fixed.extend(named_in_expression(&line[equals + 1..], edition));
+                    second.extend(line);
+                }
                 Line::Plain => second.extend(plain(&mut rng).bytes()),
                 Line::Directive { word, .. } if marks[index] == 2 => {
                     let spelled = match word {
@@ -180,5 +240,7 @@ fn unread_text_makes_no_difference() {
         assert_eq!(second, first, "{file}");
     }
     let met = [accepted[0], accepted[1], with_bars, bare, bracketed];
+    assert!(met.iter().all(|&times| times > 1_000), "{met:?}");
+    let met = [obeyed, dropped[0], dropped[1]];
     assert!(met.iter().all(|&times| times > 1_000), "{met:?}");
 }

@@ -762,7 +762,7 @@ fn field_refusals() {
 
 #[test]
 fn refusal_numbers_have_meanings() {
-    for number in 1..=26 {
+    for number in 1..=28 {
         assert_ne!(
             oracle::refusal::meaning(number),
             oracle::refusal::meaning(0)

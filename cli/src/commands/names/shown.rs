@@ -1,13 +1,18 @@
 //! The names in rows, and in JSON.
 
-use super::index::{Index, Place};
+use super::index::{Index, Name, Place};
 use crate::description::Sort;
 use crate::examined::Examined;
 use crate::library::lookup;
 use crate::terminal::{columns, escaped, json_of_value, push_literal, quote_for, Json, Members};
 
-/// What is said of lines, by whether their directives are read.
-const STATES: [(Option<bool>, &str); 3] = [
+/// What is said of lines, by whether they are read: of those that set a name, and of those that name it.
+const SETTING: [(Option<bool>, &str); 3] = [
+    (Some(true), "set in"),
+    (Some(false), "DEFINE not read"),
+    (None, "DEFINE in"),
+];
+const NAMING: [(Option<bool>, &str); 3] = [
     (Some(true), "read"),
     (Some(false), "not read"),
     (None, "named in"),
@@ -15,13 +20,12 @@ const STATES: [(Option<bool>, &str); 3] = [
 
 /// One row for each name: macro or PCD, the name, its value, and the lines of each file.
 pub fn rows(index: &Index, files: &[Examined], table: &[u8]) -> String {
-    let row = |((name, sort), places): (&(&[u8], Sort), &Vec<Place>)| {
-        let value = value(table, name);
+    let row = |((text, sort), name): (&(&[u8], Sort), &Name)| {
         [
             sort.word().into(),
-            escaped(name),
-            value,
-            lines(places, files),
+            escaped(text),
+            value(table, text, name),
+            lines(name, files),
         ]
     };
     let rows: Vec<[String; 4]> = index.0.iter().map(row).collect();
@@ -40,37 +44,39 @@ pub fn rows(index: &Index, files: &[Examined], table: &[u8]) -> String {
     rows.iter().map(shown).collect()
 }
 
-/// The value of a name, as `table` lists it.
-fn value(table: &[u8], name: &[u8]) -> String {
-    match lookup(table, name) {
+/// The value of a name's setting, as `table` lists it. Without one a line of a file may set it.
+fn value(table: &[u8], text: &[u8], name: &Name) -> String {
+    match lookup(table, text) {
         Some(value) => {
             let mut literal = Vec::new();
             push_literal(&mut literal, &value, quote_for(&value));
             escaped(&literal)
         }
+        None if name.defined.iter().any(|(_, record)| record.is_some()) => "by DEFINE".into(),
         None => "not set".into(),
     }
 }
 
-/// The lines in which a name is, file by file. The places are in the order of files.
-fn lines(places: &[Place], files: &[Examined]) -> String {
-    let of_file = |places: &[Place]| {
-        let states: Vec<String> = STATES
+/// The lines that set a name or have it, file by file.
+fn lines(name: &Name, files: &[Examined]) -> String {
+    let of_file = |(at, file): (usize, &Examined)| {
+        let is_here = |place: &&Place| place.file == at;
+        let setting = name.defined.iter().map(|(place, _)| place);
+        let setting: Vec<&Place> = setting.filter(is_here).collect();
+        let naming: Vec<&Place> = name.places.iter().filter(is_here).collect();
+        let setting = SETTING
             .iter()
-            .filter_map(|state| lines_of(places, *state))
-            .collect();
-        let name = escaped(files[places[0].file].name);
-        format!("{name}: {}", states.join("; "))
+            .filter_map(|state| lines_of(&setting, *state));
+        let naming = NAMING.iter().filter_map(|state| lines_of(&naming, *state));
+        let states: Vec<String> = setting.chain(naming).collect();
+        (!states.is_empty()).then(|| format!("{}: {}", escaped(file.name), states.join("; ")))
     };
-    let parts: Vec<String> = places
-        .chunk_by(|a, b| a.file == b.file)
-        .map(of_file)
-        .collect();
+    let parts: Vec<String> = files.iter().enumerate().filter_map(of_file).collect();
     parts.join(" | ")
 }
 
 /// The lines of the places that are so, after the word for it.
-fn lines_of(places: &[Place], (is_read, word): (Option<bool>, &str)) -> Option<String> {
+fn lines_of(places: &[&Place], (is_read, word): (Option<bool>, &str)) -> Option<String> {
     let so = places.iter().filter(|place| place.is_read == is_read);
     let mut lines: Vec<usize> = so.map(|place| place.line).collect();
     lines.dedup();
@@ -90,25 +96,39 @@ pub fn members(index: &Index, files: &[Examined], table: &[u8]) -> Members {
             ),
         ])
     };
-    let of_place = |place: &Place| {
+    let of_name = |((text, sort), name): (&(&[u8], Sort), &Name)| {
+        let places = name.places.iter().map(|place| json_of_place(place, files));
+        let defined = name.defined.iter().map(|(place, record)| {
+            let mut members = json_of_place(place, files);
+            let record = record.as_deref().unwrap_or_default();
+            members.push(("value", json_of_setting(record, text)));
+            members
+        });
         Json::Object(vec![
-            ("file", Json::text(files[place.file].name)),
-            ("line", Json::Number(place.line as u64)),
-            ("column", Json::Number(place.column as u64)),
-            ("read", place.is_read.map_or(Json::Null, Json::Bool)),
-        ])
-    };
-    let of_name = |((name, sort), places): (&(&[u8], Sort), &Vec<Place>)| {
-        let value = lookup(table, name);
-        Json::Object(vec![
-            ("name", Json::text(name)),
+            ("name", Json::text(text)),
             ("sort", Json::text(sort.word())),
-            ("value", value.as_ref().map_or(Json::Null, json_of_value)),
-            ("places", Json::List(places.iter().map(of_place).collect())),
+            ("value", json_of_setting(table, text)),
+            ("places", Json::List(places.map(Json::Object).collect())),
+            ("defined", Json::List(defined.map(Json::Object).collect())),
         ])
     };
     vec![
         ("files", Json::List(files.iter().map(of_file).collect())),
         ("names", Json::List(index.0.iter().map(of_name).collect())),
     ]
+}
+
+fn json_of_place(place: &Place, files: &[Examined]) -> Members {
+    vec![
+        ("file", Json::text(files[place.file].name)),
+        ("line", Json::Number(place.line as u64)),
+        ("column", Json::Number(place.column as u64)),
+        ("read", place.is_read.map_or(Json::Null, Json::Bool)),
+    ]
+}
+
+/// The value of a name in a table.
+fn json_of_setting(table: &[u8], name: &[u8]) -> Json {
+    let value = lookup(table, name);
+    value.as_ref().map_or(Json::Null, json_of_value)
 }

@@ -1,8 +1,7 @@
 //! What `select` prints.
 
 use super::report::Report;
-use crate::examined::Examined;
-use crate::library::mark;
+use crate::examined::{is_kept, Examined};
 use crate::notes;
 use crate::terminal::{annotated, escaped, lines, object, without_end, Json, Members};
 
@@ -41,10 +40,10 @@ fn joined(files: &[Examined], keeps_lines: bool) -> Vec<u8> {
     let mut all = Vec::new();
     let mut is_open = false;
     for (line, mark) in files.iter().flat_map(Examined::marked) {
-        let shown = match mark {
-            mark::KEPT => line,
-            _ if keeps_lines => &line[without_end(line).len()..],
-            _ => continue,
+        let shown = match (is_kept(mark), keeps_lines) {
+            (true, _) => line,
+            (false, true) => &line[without_end(line).len()..],
+            (false, false) => continue,
         };
         if is_open {
             all.push(b'\n');
@@ -57,9 +56,7 @@ fn joined(files: &[Examined], keeps_lines: bool) -> Vec<u8> {
 
 /// How many lines of a file are kept.
 pub fn kept(file: &Examined) -> usize {
-    file.marked()
-        .filter(|(_, mark)| *mark == mark::KEPT)
-        .count()
+    file.marked().filter(|(_, mark)| is_kept(*mark)).count()
 }
 
 /// What --json says of the run.

@@ -2,8 +2,8 @@
 use native.Mathlib.Omega.{arith}
 use mathlib.Core.Path.{sym, _∙_}
 use borrow.Author.Tests.{lt-ltb, le-ltb, le-leb, eq-eqb, ne-eqb}
+use Rattle.text.proofs.LowestBytes.{low-length}
 use Rattle.datum.specs.Encoding.{widthOf, limitOf}
-use Rattle.datum.proofs.Storing.{low-length}
 use Rattle.datum.proofs.Fitting.{refuses, short, stores, number-fits}
 use borrow.Author.Needs.{needs}
 use Rattle.datum.proofs.number.Statement.{statement}

@@ -8,13 +8,12 @@ use borrow.Author.Needs.{needs}
 use Rattle.grammar.specs.Grammar.{expression}
 use Rattle.grammar.specs.Parse.{Result, got, find, Yields}
 use Rattle.syntax.specs.Order.{OrderTo}
-use Rattle.value.specs.Places.{over}
 use Rattle.value.specs.Attributes.{Attributes}
 use Rattle.value.specs.declared.Attributes.{Attributes as CodedAttributes}
 use Rattle.value.specs.Denote.{denoteAttributes}
 use Rattle.expression.specs.Meaning.{codeOf, meaning}
 use Rattle.expression.specs.Parsing.{tokenAt}
-use Rattle.expression.specs.Postfix.{Input, Foldable, Folds}
+use Rattle.expression.specs.Postfix.{Input, memoryOf, Foldable, Folds}
 use Rattle.expression.proofs.Made.{faulted, valued, come}
 use Rattle.expression.proofs.parse.Statement.{statement}
 use Rattle.expression.proofs.parse.Tie as tie
@@ -22,7 +21,9 @@ use Rattle.expression.proofs.parse.Tie as tie
 abbrev input : tie.Start → Input
 input s =
     record {
-      m = over (s .args .expr .now) (s .args .table .now);
+      expr = s .args .expr .now;
+      own = s .args .own .now;
+      table = s .args .table .now;
       codes = s .args .codes .now;
       starts = s .args .starts .now;
       lens = s .args .lens .now;
@@ -34,7 +35,7 @@ input s =
 abbrev Parsing : tie.Start → Result Attributes → Type 0
 Parsing s r =
     let i = input s in
-    Yields codeOf (meaning (i .m)) (tokenAt (i .codes) (i .starts) (i .lens) (i .values) (i .n)) (i .n) (find expression 0) r
+    Yields codeOf (meaning (memoryOf i)) (tokenAt (i .codes) (i .starts) (i .lens) (i .values) (i .n)) (i .n) (find expression 0) r
 
 module _ (s : tie.Start) (most m j : ℕ) (o : List ℕ) (w : OrderTo (input s .codes) (input s .n) m j o) (room : m ≤ most + most) where
   -- an order can be folded with room for half its entries
@@ -45,7 +46,7 @@ module _ (s : tie.Start) (most m j : ℕ) (o : List ℕ) (w : OrderTo (input s .
       record { ready = s .pre; all = w .most; long = w .long; value = v .0; gives = v .1 }
 
   -- it leaves the result of the parser
-  folded : (z : CodedAttributes) → Folds (input s) most o m z → Parsing s (got (denoteAttributes (input s .m) z) j)
+  folded : (z : CodedAttributes) → Folds (input s) most o m z → Parsing s (got (denoteAttributes (memoryOf (input s)) z) j)
   folded z f =
       let l = length-take-le m o (omega (arith, w .most, w .long)) in
       come (input s) most (s .pre .holding .few) (take m o) j (omega (arith, l, w .most)) (omega (arith, l)) (w .made) z f
@@ -67,7 +68,7 @@ fold-requires c κs =
     let if1 = c .before .before .if1 in
     let order = c .before .before .before .before in
     let write = order .before .before .write-postfix in
-    let start = order .before .before .before .before .before .before .before .before .before in
+    let start = order .before .before .before .before .before .before .before .before .before .before in
     foldable start 16 _ _ (write .last .0) (rw (order .filled .given .1) at (write .ensures)) (omega (arith, if1 .taken))
 
 returns : tie.Need-returns
@@ -75,7 +76,7 @@ returns c =
     let if1 = c .before .before .before .before .if1 in
     let order = c .before .before .before .before .before .before in
     let write = order .before .before .write-postfix in
-    let start = order .before .before .before .before .before .before .before .before .before in
+    let start = order .before .before .before .before .before .before .before .before .before .before in
     let written = rw (order .filled .given .1) at (write .ensures) in
     let short = if1 .taken in
     folded start 16 _ _ (write .last .0) written (omega (arith, short)) (c .before .fold .result) (c .before .fold .ensures)
@@ -87,7 +88,7 @@ fold-requires-2 : tie.Need-fold-requires-2
 fold-requires-2 c κs =
     let order = c .before .before .before .before in
     let write = order .before .before .write-postfix in
-    let start = order .before .before .before .before .before .before .before .before .before in
+    let start = order .before .before .before .before .before .before .before .before .before .before in
     let written = rw (order .filled .given .1) at (write .ensures) in
     foldable start 100 _ _ (write .last .0) written (omega (arith, written .most))
 
@@ -95,14 +96,14 @@ returns-2 : tie.Need-returns-2
 returns-2 c =
     let fault = c .before in
     let write = fault .before .before .write-postfix in
-    let start = fault .before .before .before .before .before .before .before .before .before in
+    let start = fault .before .before .before .before .before .before .before .before .before .before in
     faulted (input start) 100 (start .pre .holding .few) _ (rw (fault .at .given .1) at (write .ensures))
 
 returns-3 : tie.Need-returns-3
 returns-3 c =
     let order = c .before .before .before .before .before .before in
     let write = order .before .before .write-postfix in
-    let start = order .before .before .before .before .before .before .before .before .before in
+    let start = order .before .before .before .before .before .before .before .before .before .before in
     let written = rw (order .filled .given .1) at (write .ensures) in
     folded start 100 _ _ (write .last .0) written (omega (arith, written .most)) (c .before .fold2 .result) (c .before .fold2 .ensures)
 

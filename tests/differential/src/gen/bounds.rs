@@ -75,8 +75,8 @@ fn near_the_line_length(rng: &mut Prng, names: &Names) -> Vec<u8> {
     join(rng, &lines)
 }
 
-/// Conditions with up to 199 operators each, or up to 99 bars, so that their
-/// sum does not fit a byte, or even two.
+/// Conditions and DEFINE lines with up to 199 operators each, or conditions with
+/// up to 99 bars, so that their sum does not fit a byte, or even two.
 fn many_operators(rng: &mut Prng) -> Vec<u8> {
     let groups = match rng.below(4) {
         0 => rng.between(250, 310),
@@ -84,12 +84,13 @@ fn many_operators(rng: &mut Prng) -> Vec<u8> {
     };
     let lines: Vec<Vec<u8>> = (0..groups)
         .flat_map(|_| {
-            let operators = match rng.below(4) {
-                0 => b"0|".repeat(rng.between(75, 99)),
-                _ => b"!".repeat(rng.between(150, 199)),
+            let negations = b"!".repeat(rng.between(150, 199));
+            let (front, operators, back): (&[u8], _, &[u8]) = match rng.below(4) {
+                0 => (b"!if ", b"0|".repeat(rng.between(75, 99)), b"!endif"),
+                1 => (b"DEFINE A =", negations, b"x"),
+                _ => (b"!if ", negations, b"!endif"),
             };
-            let condition = [b"!if ", &operators[..], b"0"].concat();
-            [condition, b"!endif".to_vec()]
+            [[front, &operators, b"0"].concat(), back.to_vec()]
         })
         .collect();
     lines.join(&b'\n')

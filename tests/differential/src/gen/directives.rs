@@ -1,10 +1,12 @@
 //! What follows a directive's word, and lines made of it.
 
 use super::bare_words;
+use super::definitions;
 use super::expressions::damage;
 use super::formulas::{formula, Place, COMPARISONS};
 use super::names::{macro_name, NUMBERS, TEXTS, WIDES};
 use super::settings::{Kind, Names};
+use super::shapes;
 use super::values;
 use crate::prng::Prng;
 
@@ -70,7 +72,7 @@ fn negation(rng: &mut Prng, names: &Names) -> Vec<u8> {
 
 /// Truths with operators between them that keep the value 0 or 1. Half of
 /// those with bars are in parentheses.
-fn joined(rng: &mut Prng, names: &Names) -> Vec<u8> {
+pub fn joined(rng: &mut Prng, names: &Names) -> Vec<u8> {
     let mut text = truth(rng, names);
     let mut bars = false;
     for _ in 0..rng.pick(&[1, 1, 1, 2, 4]) {
@@ -105,7 +107,7 @@ fn truth(rng: &mut Prng, names: &Names) -> Vec<u8> {
 }
 
 /// Two operands of one kind, compared.
-fn comparison(rng: &mut Prng, names: &Names) -> Vec<u8> {
+pub fn comparison(rng: &mut Prng, names: &Names) -> Vec<u8> {
     if names.takes_old_spelling(rng) {
         let left = written(names.pick(rng, Kind::Text));
         return bare_words::equality(rng, &left);
@@ -124,18 +126,16 @@ fn comparison(rng: &mut Prng, names: &Names) -> Vec<u8> {
         Kind::Wide => rng.pick(&["L''", "L'a'", "L\"ab\""]),
     };
     let left = written(names.pick(rng, kind));
-    [
-        &left[..],
-        b" ",
-        operator.as_bytes(),
-        b" ",
-        literal.as_bytes(),
-    ]
-    .concat()
+    let right = match rng.below(8) {
+        0 | 1 => written(names.pick(rng, kind)),
+        2 => definitions::literal(rng, kind),
+        _ => literal.into(),
+    };
+    [&left[..], b" ", operator.as_bytes(), b" ", &right].concat()
 }
 
 /// A macro in an expression has its `$( )`, a PCD has not.
-fn written(name: Vec<u8>) -> Vec<u8> {
+pub fn written(name: Vec<u8>) -> Vec<u8> {
     match name.contains(&b'.') {
         true => name,
         false => [b"$(", &name[..], b")"].concat(),
@@ -216,7 +216,7 @@ pub fn nothing(rng: &mut Prng) -> Vec<u8> {
 }
 
 /// Blanks and a comment, mostly neither.
-fn tail(rng: &mut Prng) -> &'static [u8] {
+pub fn tail(rng: &mut Prng) -> &'static [u8] {
     rng.pick(&[
         &b""[..],
         b"",
@@ -250,22 +250,23 @@ pub fn rubbish(rng: &mut Prng) -> Vec<u8> {
     text
 }
 
-/// A plain line without an LF.
+/// A plain line without an LF whose first word is not `DEFINE`.
 pub fn plain(rng: &mut Prng) -> Vec<u8> {
     #[rustfmt::skip]
     let known: &[&[u8]] = &[
         b"", b"x", b"  x", b"\t", b"#", b"# !endif", b"x !if 1", b"if 1", b"endif", b"!include a", b" !error", b"!include9",
-        b"\t!error#", b"DEFINE A = 1", b"[Defines]", b"\"!if 1\"", b"\r", b"\r!if 1", b"\x0b!if", b"\xff\0", b"@ ' \" (",
+        b"\t!error#", b"[Defines]", b"\"!if 1\"", b"\r", b"\r!if 1", b"\x0b!if", b"\xff\0", b"@ ' \" (",
     ];
-    match rng.below(8) {
+    match rng.below(10) {
         0 => [rng.pick(&[&b"!include"[..], b" !error"]), &rubbish(rng)[..]].concat(),
         1 => {
             let line = rubbish(rng);
             match oracle::lines::sort(&line) {
-                Ok(oracle::lines::Line::Plain) => line,
+                Ok(oracle::lines::Line::Plain) if !shapes::is_one(&line) => line,
                 _ => b"x".to_vec(),
             }
         }
+        2 | 3 => shapes::nearly(rng),
         _ => rng.pick(known).to_vec(),
     }
 }

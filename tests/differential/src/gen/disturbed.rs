@@ -12,10 +12,12 @@ use super::tables::name_in;
 use crate::prng::Prng;
 
 /// The file with one read directive changed so that its mark is another, or
-/// its text is malformed. None if it reads none.
+/// its text is malformed; or a kept DEFINE line become another one or none; or a
+/// kept line become one. None if there is no such line.
 pub fn file(rng: &mut Prng, file: &[u8], marks: &[u8], edition: Edition) -> Option<Vec<u8>> {
+    let least = rng.pick(&[mark::NOT_TAKEN, mark::NOT_TAKEN, mark::KEPT]);
     let read: Vec<usize> = (0..marks.len())
-        .filter(|&index| marks[index] >= mark::NOT_TAKEN)
+        .filter(|&index| marks[index] >= least && marks[index] != mark::UNREAD)
         .collect();
     if read.is_empty() {
         return None;
@@ -28,6 +30,7 @@ pub fn file(rng: &mut Prng, file: &[u8], marks: &[u8], edition: Edition) -> Opti
                 let taken = marks[index] == mark::TAKEN;
                 second.extend(other_outcome(rng, word, taken, edition));
             }
+            _ if index == chosen => second.extend(other_line(rng, marks[index])),
             _ => second.extend(line),
         }
         second.extend(if line.ends_with(b"\r") {
@@ -37,6 +40,19 @@ pub fn file(rng: &mut Prng, file: &[u8], marks: &[u8], edition: Edition) -> Opti
         });
     }
     Some(second)
+}
+
+/// A line with another mark than this one, or that is refused.
+fn other_line(rng: &mut Prng, mark: u8) -> &'static [u8] {
+    match mark {
+        mark::DEFINE => rng.pick(&[&b"x"[..], b"DEFINED A = 1", b"DEFINE A", b"DEFINE A = @"]),
+        _ => rng.pick(&[
+            &b"DEFINE"[..],
+            b"DEFINE A = 1",
+            b"\tDEFINE\tD=''",
+            b"DEFINE $(A) = 1",
+        ]),
+    }
 }
 
 fn other_outcome(rng: &mut Prng, word: Word, taken: bool, edition: Edition) -> &'static [u8] {

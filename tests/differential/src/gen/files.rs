@@ -1,8 +1,12 @@
 //! Description files, good and bad.
 
 use super::bounds::near_a_limit;
+use super::decisions;
+use super::definitions;
 use super::directives::{condition, name, plain, rubbish, BLANKS, NEARLY_WORDS, WORDS};
 use super::groups::{deep, nested};
+use super::many_definitions;
+use super::refused_definitions;
 use super::refused_lines;
 use super::settings::Names;
 use super::twins::spoil;
@@ -10,7 +14,7 @@ use crate::prng::Prng;
 
 /// Any file.
 pub fn any(rng: &mut Prng, names: &Names, table: &[u8]) -> Vec<u8> {
-    match rng.below(28) {
+    match rng.below(34) {
         0 => random_bytes(rng),
         1..=4 => soup(rng, names),
         5..=9 => {
@@ -36,13 +40,25 @@ pub fn any(rng: &mut Prng, names: &Names, table: &[u8]) -> Vec<u8> {
             let lines = refused_lines::any(rng, names);
             join(rng, &lines)
         }
+        24..=27 => {
+            let lines = refused_definitions::any(rng, names);
+            join(rng, &lines)
+        }
+        28 => {
+            let lines = many_definitions::any(rng, names);
+            join(rng, &lines)
+        }
         _ => good(rng, names),
     }
 }
 
 /// A file that is mostly accepted.
 pub fn good(rng: &mut Prng, names: &Names) -> Vec<u8> {
-    let lines = nested(rng, names);
+    let lines = match rng.below(60) {
+        0 => many_definitions::any(rng, names),
+        1..=20 => decisions::any(rng, names),
+        _ => nested(rng, names),
+    };
     join(rng, &lines)
 }
 
@@ -88,13 +104,19 @@ fn soup(rng: &mut Prng, names: &Names) -> Vec<u8> {
     };
     // Some have good words only, so that they are read further.
     let bad_one_in = rng.pick(&[4, 12, 1_000_000]);
-    let lines: Vec<Vec<u8>> = (0..len).map(|_| any_line(rng, names, bad_one_in)).collect();
+    let mut names = names.clone();
+    let lines: Vec<Vec<u8>> = (0..len)
+        .map(|_| any_line(rng, &mut names, bad_one_in))
+        .collect();
     join(rng, &lines)
 }
 
-fn any_line(rng: &mut Prng, names: &Names, bad_one_in: usize) -> Vec<u8> {
-    if rng.one_in(4) {
-        return plain(rng);
+fn any_line(rng: &mut Prng, names: &mut Names, bad_one_in: usize) -> Vec<u8> {
+    match rng.below(8) {
+        0 => return plain(rng),
+        1 if rng.one_in(bad_one_in) => return definitions::bad(rng, names),
+        1 => return definitions::good(rng, names, true),
+        _ => {}
     }
     let word = match rng.one_in(bad_one_in) {
         true => rng.pick(NEARLY_WORDS),

@@ -9,6 +9,9 @@ pub const NUMBERS: [&str; 8] = ["A", "B", "AB", "FOO", "WEEK", "g.Num", "AND.x",
 pub const TEXTS: [&str; 4] = ["S", "TARGET", "g.Str", "TRUE.t"];
 pub const WIDES: [&str; 3] = ["W", "g.Wide", "L.L"];
 
+/// Macros that such a table does not have. DEFINE lines set them.
+pub const UNSET: [&str; 5] = ["D", "D0", "D1", "NEW", "NOPE"];
+
 /// A macro name of this many bytes.
 pub fn macro_name(rng: &mut Prng, len: usize) -> Vec<u8> {
     let mut name = vec![rng.pick(b"ABZ")];

@@ -3,7 +3,7 @@
 use oracle::table::{NAME, RECORD};
 use oracle::Edition;
 
-use super::names::{NUMBERS, TEXTS, WIDES};
+use super::names::{NUMBERS, TEXTS, UNSET, WIDES};
 use super::numbers::edge;
 use super::tables;
 use crate::prng::Prng;
@@ -63,8 +63,11 @@ pub fn known(rng: &mut Prng) -> Vec<u8> {
 
 /// The names of a table, by the kinds of their values, and the edition in whose
 /// spelling they and other operands are mostly written. Both editions read it.
+#[derive(Clone)]
 pub struct Names {
     by_kind: [Vec<Vec<u8>>; 3],
+    /// Macros that DEFINE lines set above what is written next.
+    defined: [Vec<Vec<u8>>; 3],
     edition: Edition,
 }
 
@@ -79,7 +82,11 @@ impl Names {
                 names.push(name.unwrap_or_default().to_vec());
             }
         }
-        Names { by_kind, edition }
+        Names {
+            by_kind,
+            defined: [const { Vec::new() }; 3],
+            edition,
+        }
     }
 
     pub fn edition(&self) -> Edition {
@@ -95,8 +102,45 @@ impl Names {
         })
     }
 
+    /// Notes that a DEFINE line sets this macro.
+    pub fn define(&mut self, name: &[u8], kind: Kind) {
+        for names in self.by_kind.iter_mut().chain(&mut self.defined) {
+            names.retain(|known| known != name);
+        }
+        self.defined[kind as usize].push(name.to_vec());
+    }
+
+    /// The kind that a name has, if it is set.
+    pub fn kind_of(&self, name: &[u8]) -> Option<Kind> {
+        let lists =
+            |kind: &Kind| [&self.defined, &self.by_kind].map(|lists| &lists[*kind as usize]);
+        let has = |kind: &Kind| {
+            lists(kind)
+                .iter()
+                .any(|names| names.iter().any(|known| known == name))
+        };
+        KINDS.into_iter().find(has)
+    }
+
+    /// A macro of this kind, if one is found.
+    pub fn pick_macro(&self, rng: &mut Prng, kind: Kind) -> Option<Vec<u8>> {
+        let is_one = |name: &Vec<u8>| !name.contains(&b'.') && self.kind_of(name) == Some(kind);
+        (0..5).map(|_| self.pick(rng, kind)).find(is_one)
+    }
+
     /// A name of this kind, or one that may be missing or of another kind.
     pub fn pick(&self, rng: &mut Prng, kind: Kind) -> Vec<u8> {
+        let defined = &self.defined[kind as usize];
+        if !defined.is_empty() && rng.one_in(2) {
+            return defined[rng.below(defined.len())].clone();
+        }
+        if kind == Kind::Number && rng.one_in(10) {
+            // It is a number wherever it is not set.
+            let name = rng.pick(&UNSET).as_bytes();
+            if self.kind_of(name).is_none_or(|known| known == kind) {
+                return name.to_vec();
+            }
+        }
         let names = &self.by_kind[kind as usize];
         if !names.is_empty() && !rng.one_in(40) {
             return names[rng.below(names.len())].clone();

@@ -25,9 +25,23 @@ const LINES: [&str; 16] = [
 /// Those of them that open, divide and close groups.
 const BARE: [&str; 6] = ["!if 0", "!if 1", "!elif 1", "!else", "!endif", "x"];
 
+/// Lines that set a macro and ask for it.
+const DEFINES: [&str; 9] = [
+    "DEFINE A = 1",
+    "DEFINE B = $(A)",
+    "DEFINE A = $(B) + 1",
+    "DEFINE A",
+    "!if $(A) == 1",
+    "!ifdef B",
+    "!elif $(B)",
+    "!else",
+    "!endif",
+];
+
 pub fn all() -> Vec<Vec<u8>> {
     let mut files = lists(&LINES, 4);
     files.extend(lists(&BARE, 6));
+    files.extend(lists(&DEFINES, 5));
     files.extend(ends());
     files.extend(texts());
     files.extend(bytes());
@@ -132,6 +146,19 @@ fn bytes() -> Vec<Vec<u8>> {
             (b"!ifndef $(A)", b"\n!endif"),
             (b"!include", b"\n"),
             (b"!else", b""),
+            (b"", b"DEFINE D = 1\n!ifdef D\n!endif"),
+            (b"DEFINE", b"D = 1\n!ifdef D\n!endif"),
+            (b"DEFINE", b" D = 1\n!ifdef D\n!endif"),
+            (b"DEFIN", b" D = 1\n!ifdef D\n!endif"),
+            (b"DEFINE ", b" = 1\n!ifdef D\n!endif"),
+            (b"DEFINE ", b"D = 1\n!ifdef D\n!endif"),
+            (b"DEFINE D", b"= 1\n!ifdef D\n!endif"),
+            (b"DEFINE D ", b" 1\n!ifdef D\n!endif"),
+            (b"DEFINE D =", b"1\n!ifdef D\n!endif"),
+            (b"DEFINE D = ", b"\n!ifdef D\n!endif"),
+            (b"DEFINE D = 1", b"\n!if $(D) == 1\n!endif"),
+            (b"DEFINE D = '", b"'\n!if $(D) == '\0'\n!endif"),
+            (b"!if 0\nDEFINE", b"D\n!endif\n!ifdef D\n!endif"),
         ] {
             files.push([front, &[byte], back].concat());
         }

@@ -9,16 +9,18 @@ use oracle::table::{MAX_RECORDS, RECORD};
 use oracle::tokens::code;
 use oracle::Edition;
 
+use super::definitions;
 use super::directives::{plain, rubbish, BLANKS};
 use super::tables::name_in;
 use super::{settings, tables};
 use crate::prng::Prng;
 use crate::read;
 
-/// What of a file may change.
+/// What of a file may change. A DEFINE line that is kept may not.
 #[derive(Clone, Copy)]
 struct Free {
-    plain: bool,
+    kept: bool,
+    dropped: bool,
     unread: bool,
     ends: bool,
 }
@@ -31,14 +33,15 @@ pub fn marks(file: &[u8], table: &[u8], edition: Edition) -> Option<Vec<u8>> {
     Some(marks)
 }
 
-/// The file with other text after directives that are not read, if it is
-/// accepted under the table.
+/// The file with other lines that are dropped, and other text after directives
+/// that are not read, if it is accepted under the table.
 pub fn spoil(rng: &mut Prng, file: &[u8], table: &[u8], edition: Edition) -> Vec<u8> {
     let Some(marks) = marks(file, table, edition) else {
         return file.to_vec();
     };
     let free = Free {
-        plain: false,
+        kept: false,
+        dropped: true,
         unread: true,
         ends: false,
     };
@@ -48,7 +51,8 @@ pub fn spoil(rng: &mut Prng, file: &[u8], table: &[u8], edition: Edition) -> Vec
 /// Another file with the same marks.
 pub fn file(rng: &mut Prng, file: &[u8], marks: &[u8]) -> Vec<u8> {
     let free = Free {
-        plain: !rng.one_in(4),
+        kept: !rng.one_in(4),
+        dropped: !rng.one_in(4),
         unread: !rng.one_in(4),
         ends: !rng.one_in(4),
     };
@@ -60,13 +64,15 @@ fn rewrite(rng: &mut Prng, file: &[u8], marks: &[u8], free: Free) -> Vec<u8> {
     let pieces = file.split_inclusive(|&byte| byte == b'\n');
     for ((piece, line), &mark) in pieces.zip(lines(file)).zip(marks) {
         let same = match mark {
-            mark::DROPPED | mark::KEPT => !free.plain,
+            mark::DROPPED => !free.dropped,
+            mark::KEPT => !free.kept,
             mark::UNREAD => !free.unread,
             _ => true,
         };
         let bytes = match sort(line) {
             _ if same => line.to_vec(),
             Ok(Line::Directive { word, .. }) => unread(rng, word),
+            _ if mark == mark::DROPPED => definitions::dropped(rng),
             _ => plain(rng),
         };
         let end = match &piece[line.len()..] {
@@ -120,7 +126,8 @@ fn unread(rng: &mut Prng, word: Word) -> Vec<u8> {
     line
 }
 
-/// The names that the read directives of a file depend on.
+/// The names that the read directives of a file depend on, and the DEFINE lines
+/// that are kept.
 pub fn named(file: &[u8], marks: &[u8], edition: Edition) -> BTreeSet<Vec<u8>> {
     let mut names = BTreeSet::new();
     for (word, argument) in read::branches(file, marks) {
@@ -133,6 +140,9 @@ pub fn named(file: &[u8], marks: &[u8], edition: Edition) -> BTreeSet<Vec<u8>> {
             }
             Word::Else | Word::Endif => {}
         }
+    }
+    for definition in read::definitions(file, marks) {
+        names.extend(in_expression(definition.expression, edition));
     }
     names
 }

@@ -1,7 +1,7 @@
 -- Without its blank the text is malformed; with it the answer to all of the text decides.
 use mathlib.Core.Path.{sym, _∙_}
 use borrow.Author.Tests.{not-true, not-false}
-use Rattle.value.specs.Places.{over}
+use Rattle.value.specs.Places.{overAll}
 use Rattle.condition.specs.Conditions.{ofExpression}
 use borrow.Author.Needs.{needs}
 use Rattle.condition.proofs.expressions.of_expression.Statement.{statement}
@@ -28,8 +28,9 @@ unfolding ofExpression
 returns-2 c =
     let if1 = c .before .before .if1 in
     let is-spaced = c .before .before .before .is-spaced in
-    let a = c .before .before .before .before .before .before .args in
-    c .of-answer .ensures (over (a .text .now) (a .table .now)) ∙ rw (sym (is-spaced .ensures) ∙ not-false _ (if1 .left), c .before .evaluate-in .ensures)
+    let a = c .before .before .before .before .before .before .before .args in
+    let m = overAll (a .text .now) (a .own .now) (a .table .now) in
+    c .of-answer .ensures m ∙ rw (sym (is-spaced .ensures) ∙ not-false _ (if1 .left), c .before .evaluate-in .ensures)
 
 pub of-expression-spec : {M : Type 1} → statement M
 of-expression-spec =

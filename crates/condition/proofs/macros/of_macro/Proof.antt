@@ -23,12 +23,12 @@ run-end-requires c κs = search needs
 
 sub-rest : tie.Need-sub-rest
 sub-rest c =
-    let start = c .before .before .before .before .before in
+    let start = c .before .before .before .before .before .before in
     omega (arith, blanks-inside (start .args .text .now) (c .run-end .ensures))
 
 part-rest-start : tie.Need-part-rest-start
 part-rest-start c =
-    let start = c .before .before .before .before .before in
+    let start = c .before .before .before .before .before .before in
     blanks-inside (start .args .text .now) (c .run-end .ensures)
 
 part-rest-end : tie.Need-part-rest-end
@@ -46,7 +46,7 @@ returns-2 c =
     let at-run-end = c .before .before .before in
     let at-if1 = at-run-end .before in
     let at-is-spaced = at-if1 .before in
-    let start = at-is-spaced .before .before .before in
+    let start = at-is-spaced .before .before .before .before in
     c .of-named .ensures ∙ rw (
       c .before .name-at .ensures,
       past-blanks (start .args .text .now) (at-run-end .run-end .ensures),

@@ -24,7 +24,7 @@ unplaced-requires-2 c κs = search needs
 returns-2 : tie.Need-returns-2
 unfolding ofNamed
 returns-2 c =
-    let start = c .before .before .before .before .before .before .before .before in
+    let start = c .before .before .before .before .before .before .before .before .before in
     rw (
       lt-ltb 0 (start .args .n .len) (omega arith),
       sym (c .before .before .is-idle .ensures) ∙ not-true _ (c .before .if2 .taken),
@@ -34,8 +34,8 @@ returns-2 c =
 part-requires : tie.Need-part-requires
 part-requires c κs = search needs
 
-lookup-requires : tie.Need-lookup-requires
-lookup-requires c κs = search needs
+setting-requires : tie.Need-setting-requires
+setting-requires c κs = search needs
 
 decide-requires : tie.Need-decide-requires
 decide-requires c κs = search needs
@@ -46,11 +46,11 @@ returns-3 c =
     let part = c .before .before .part in
     let if2 = c .before .before .before .before .if2 in
     let is-idle = c .before .before .before .before .before .is-idle in
-    let s = c .before .before .before .before .before .before .before .before .before .before .before in
+    let s = c .before .before .before .before .before .before .before .before .before .before .before .before in
     c .decide .ensures ∙ rw (
       lt-ltb 0 (s .args .n .len) (omega arith),
       sym (is-idle .ensures) ∙ not-false _ (if2 .left),
-      ap (λ (x : Setting). x .found) (c .before .lookup .ensures .right (s .pre)),
+      ap (λ (x : Setting). x .found) (c .before .setting .ensures),
       part .ensures .bytes,
     )
 
@@ -64,6 +64,6 @@ of-named-spec =
     unplaced-requires-2
     returns-2
     part-requires
-    lookup-requires
+    setting-requires
     decide-requires
     returns-3)

@@ -5,7 +5,7 @@ use native.Mathlib.Nat.{sub-zero}
 use mathlib.Core.Path.{refl}
 use mathlib.Core.List.{[], _∷_}
 use borrow.Author.Needs.{needs}
-use Rattle.datum.specs.Encoding.{lowestBytes}
+use Rattle.text.specs.Numbers.{lowestBytes}
 use Rattle.datum.proofs.Storing.{Storing, begun, onward, ended, low-next, low-none}
 use Rattle.datum.proofs.store.put_number.Statement.{statement}
 use Rattle.datum.proofs.store.put_number.Tie as tie

@@ -1,29 +1,29 @@
 -- The result of the descent is that of the grammar's parser; a token after the expression is refused.
 use mathlib.Core.Path.{_∙_}
 use Rattle.grammar.proofs.Steps.{whole-bad, whole-rest, whole-made}
-use Rattle.value.specs.Places.{Memory, over}
+use Rattle.value.specs.Places.{Memory, overAll}
 use borrow.Author.Needs.{needs}
 use Rattle.evaluation.proofs.outcome.answer_tokens.Statement.{statement}
 use Rattle.evaluation.proofs.outcome.answer_tokens.Tie as tie
 
 abbrev memory : tie.Start → Memory
-memory s = over (s .args .expr .now) (s .args .table .now)
+memory s = overAll (s .args .expr .now) (s .args .own .now) (s .args .table .now)
 
 bar-at-requires : tie.Need-bar-at-requires
-bar-at-requires c κs = c .before .before .before .before .before .pre .holding
+bar-at-requires c κs = c .before .before .before .before .before .before .pre .holding
 
 pcd-at-requires : tie.Need-pcd-at-requires
-pcd-at-requires c κs = c .before .before .before .before .before .before .pre
+pcd-at-requires c κs = c .before .before .before .before .before .before .before .pre
 
 parse-requires : tie.Need-parse-requires
-parse-requires c κs = c .before .before .before .before .before .before .before .pre
+parse-requires c κs = c .before .before .before .before .before .before .before .before .pre
 
 enum-known-at : tie.Need-enum-known-at
 enum-known-at c = search needs
 
 start-at-requires : tie.Need-start-at-requires
 start-at-requires c κs =
-    let start = c .before .before .before .before .before .before .before .before .before .before .before in
+    let start = c .before .before .before .before .before .before .before .before .before .before .before .before in
     start .pre .holding
 
 refused-at-requires : tie.Need-refused-at-requires
@@ -34,7 +34,7 @@ enum-known-a c = search needs
 
 start-at-requires-2 : tie.Need-start-at-requires-2
 start-at-requires-2 c κs =
-    let start = c .before .before .before .before .before .before .before .before .before .before .before .before .before .before in
+    let start = c .before .before .before .before .before .before .before .before .before .before .before .before .before .before .before in
     start .pre .holding
 
 refused-at-requires-2 : tie.Need-refused-at-requires-2
@@ -44,7 +44,7 @@ returns : tie.Need-returns
 returns c =
     let a = c .before .before .before .before .before .before .a in
     let parse = c .before .before .before .before .before .before .before .before .parse in
-    let start = c .before .before .before .before .before .before .before .before .before .before .before .before .before .before .before .before in
+    let start = c .before .before .before .before .before .before .before .before .before .before .before .before .before .before .before .before .before in
     let if1 = c .before .before .if1 in
     let start-at2 = c .before .start-at2 in
     let parses = rw (a .given .1) at (parse .ensures) in
@@ -57,7 +57,7 @@ returns-2 : tie.Need-returns-2
 returns-2 c =
     let at = c .before .before .before .at in
     let parse = c .before .before .before .before .before .parse in
-    let start = c .before .before .before .before .before .before .before .before .before .before .before .before .before in
+    let start = c .before .before .before .before .before .before .before .before .before .before .before .before .before .before in
     let start-at = c .before .start-at in
     let fails = rw (at .given .1) at (parse .ensures) in
     c .refused-at .ensures (memory start) ∙ rw (whole-bad fails, start-at .ensures)
@@ -66,7 +66,7 @@ returns-3 : tie.Need-returns-3
 returns-3 c =
     let a = c .before .before .before .before .before .a in
     let parse = c .before .before .before .before .before .before .before .parse in
-    let start = c .before .before .before .before .before .before .before .before .before .before .before .before .before .before .before in
+    let start = c .before .before .before .before .before .before .before .before .before .before .before .before .before .before .before .before in
     let bar-at = c .before .before .before .before .before .before .before .before .before .bar-at in
     let pcd-at = c .before .before .before .before .before .before .before .before .pcd-at in
     let if1 = c .before .if1 in

@@ -24,7 +24,7 @@ slice-aggregate-evaluate-with-room-3 c =
 evaluate-with-room-requires : tie.Need-evaluate-with-room-requires
 evaluate-with-room-requires c κs =
     let test = c .before .before .before .before in
-    let start = test .before .before .before in
+    let start = test .before .before .before .before in
     let expr = start .args .expr .now in
     let δ = start .args .dialect in
     let few : length (reading expr δ .tokens) ≤ 32 = omega (arith, tokens-of-bytes expr δ, test .if1 .taken) in
@@ -48,7 +48,7 @@ slice-aggregate-evaluate-with-room-6 c =
 
 evaluate-with-room-requires-2 : tie.Need-evaluate-with-room-requires-2
 evaluate-with-room-requires-2 c κs =
-    let start = c .before .before .before .before .before .before .before in
+    let start = c .before .before .before .before .before .before .before .before in
     let expr = start .args .expr .now in
     let δ = start .args .dialect in
     (start .pre, room-of expr δ 200 (most-tokens expr δ) (omega arith) (omega arith) (omega arith) (omega arith))

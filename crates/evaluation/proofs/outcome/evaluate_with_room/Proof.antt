@@ -1,6 +1,6 @@
 -- The scan left the tokens in the arrays, so the answer to the arrays is the answer to the tokens.
 use mathlib.Core.Path.{sym, _∙_}
-use Rattle.value.specs.Places.{Memory, over}
+use Rattle.value.specs.Places.{Memory, overAll}
 use Rattle.evaluation.specs.Evaluation.{evaluationIn}
 use Rattle.evaluation.proofs.Arrays.{holding, answers}
 use borrow.Author.Needs.{needs}
@@ -8,10 +8,10 @@ use Rattle.evaluation.proofs.outcome.evaluate_with_room.Statement.{stat
 use Rattle.evaluation.proofs.outcome.evaluate_with_room.Tie as tie
 
 abbrev memory : tie.Start → Memory
-memory s = over (s .args .expr .now) (s .args .table .now)
+memory s = overAll (s .args .expr .now) (s .args .own .now) (s .args .table .now)
 
 tokens-requires : tie.Need-tokens-requires
-tokens-requires c κs = c .before .before .before .before .before .before .before .before .before .pre .1
+tokens-requires c κs = c .before .before .before .before .before .before .before .before .before .before .pre .1
 
 enum-known-ending : tie.Need-enum-known-ending
 enum-known-ending c = search needs
@@ -22,10 +22,10 @@ enum-known-ending-2 c = search needs
 answer-tokens-requires : tie.Need-answer-tokens-requires
 answer-tokens-requires c κs =
     let scan = c .before .before .before .before .before .before .before .before .before .before .before .before .before .before in
-    let start = scan .before .before .before .before .before .before .before .before .before .before in
+    let start = scan .before .before .before .before .before .before .before .before .before .before .before in
     let learnt = scan .tokens .ensures in
     record {
-      in-order = start .pre .0;
+      looked = start .pre .0;
       holding = holding (memory start) (start .args .dialect) (start .pre .1) (learnt .tokens) _ (learnt .count);
     }
 
@@ -58,7 +58,7 @@ returns-2 : tie.Need-returns-2
 returns-2 c =
     let ending2 = c .before .before .before .before .before .before .ending2 in
     let scan = c .before .before .before .before .before .before .before .before .before .before .before .before .before .before .before in
-    let start = scan .before .before .before .before .before .before .before .before .before .before in
+    let start = scan .before .before .before .before .before .before .before .before .before .before .before in
     let learnt = scan .tokens .ensures in
     let whole = sym (learnt .ending) ∙ ending2 .given .1 in
     c .answer-tokens .ensures ∙ answers (memory start) (start .args .dialect) (start .pre .1) (learnt .tokens) _ _ (learnt .count) whole

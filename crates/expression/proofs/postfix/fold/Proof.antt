@@ -8,7 +8,7 @@ use mathlib.Core.List.{List}
 use lib.ListN.{length}
 use borrow.Author.Needs.{needs}
 use Rattle.token.specs.Tokens.{Token}
-use Rattle.value.specs.Places.{Memory, over}
+use Rattle.value.specs.Places.{Memory, overAll}
 use Rattle.value.specs.Denote.{denoteAttributes, denoteToken}
 use Rattle.value.specs.Attributes.{primaryOf}
 use Rattle.grammar.specs.Grammar.{isPrimary}
@@ -29,25 +29,27 @@ record Working (k : Work) (waiting : List (List ℕ)) (top p : ℕ) : Type 0 whe
   rest : Rest k waiting top p
 
 abbrev Inv-loop : tie.InvT-loop
-Inv-loop waiting₀ expr table codes starts lens values n order filled top₀ p₀ waiting top p =
+Inv-loop waiting₀ expr own table codes starts lens values n order filled top₀ p₀ waiting top p =
     Working (record {
-      i = record { m = over expr table; codes = codes; starts = starts; lens = lens; values = values; n = n .0 };
+      i = record { expr = expr; own = own; table = table; codes = codes; starts = starts; lens = lens; values = values; n = n .0 };
       most = length waiting₀;
       order = order;
       filled = filled;
     }) waiting top p
 
 abbrev μ-loop : tie.MeasureT-loop
-μ-loop waiting₀ expr table codes starts lens values n order filled top₀ p₀ waiting top p = filled - p
+μ-loop waiting₀ expr own table codes starts lens values n order filled top₀ p₀ waiting top p = filled - p
 
 abbrev memory : tie.Start Inv-loop μ-loop → Memory
-memory s = over (s .args .expr .now) (s .args .table .now)
+memory s = overAll (s .args .expr .now) (s .args .own .now) (s .args .table .now)
 
 abbrev work : tie.Start Inv-loop μ-loop → Work
 work s =
     record {
       i = record {
-        m = memory s;
+        expr = s .args .expr .now;
+        own = s .args .own .now;
+        table = s .args .table .now;
         codes = s .args .codes .now;
         starts = s .args .starts .now;
         lens = s .args .lens .now;
@@ -65,7 +67,7 @@ abbrev EntryRead : Type 0
 EntryRead = tie.After-entry-number Inv-loop μ-loop
 
 abbrev start-of : EntryRead → tie.Start Inv-loop μ-loop
-start-of entry = entry .before .before .before .before .before .before .before .before .before
+start-of entry = entry .before .before .before .before .before .before .before .before .before .before
 
 abbrev number : EntryRead → ℕ
 number entry = entry .entry-number .result
@@ -145,17 +147,17 @@ found-filler c =
 
 loop-holds : tie.Need-loop-holds Inv-loop μ-loop
 loop-holds c =
-    let start = c .before .before .before .before .before in
+    let start = c .before .before .before .before .before .before in
     record { entries = omega arith; room = omega arith; long = refl; rest = begun (work start) (start .args .waiting .now) }
 
 mul-e : tie.Need-mul-e Inv-loop μ-loop
 mul-e c =
-    let start = c .before .before .before .before .before .before .before in
+    let start = c .before .before .before .before .before .before .before .before in
     omega (arith, start .pre .all, c .loop-test .taken)
 
 element-copy-out-e : tie.Need-element-copy-out-e Inv-loop μ-loop
 element-copy-out-e c =
-    let start = c .before .before .before .before .before .before .before in
+    let start = c .before .before .before .before .before .before .before .before in
     omega (arith, start .pre .all, start .pre .long, c .loop-test .taken)
 
 entry-number-requires : tie.Need-entry-number-requires Inv-loop μ-loop
@@ -218,7 +220,7 @@ is-primary-requires c κs = search needs
 of-primary-requires : tie.Need-of-primary-requires Inv-loop μ-loop
 of-primary-requires c κs =
     let start = start-of (c .before .before .before .before .before) in
-    start .pre .ready .in-order
+    start .pre .ready .looked
 
 store-requires : tie.Need-store-requires Inv-loop μ-loop
 store-requires c κs =
@@ -301,7 +303,7 @@ sub-binary : tie.Need-sub-binary Inv-loop μ-loop
 sub-binary c =
     let here = c .before in
     let start = start-of (here .before .before .before .before .before .before) in
-    omega (arith, binary-finds (found-binary here) (start .pre .value) (start .pre .gives))
+    omega (arith, binary-finds (found-binary here) (start .pre .value) (start .pre .gives) .0)
 
 binary-requires : tie.Need-binary-requires Inv-loop μ-loop
 binary-requires c κs =
@@ -310,13 +312,13 @@ binary-requires c κs =
     let start = start-of entry in
     let inv = entry .before .before .before .loop .inv in
     let finds = binary-finds (found-binary here) (start .pre .value) (start .pre .gives) in
-    (omega (arith, finds .0, inv .room, inv .long), finds .1)
+    (omega (arith, finds .0, inv .room, inv .long), finds .1, start .pre .ready .looked .whole, finds .2, finds .3)
 
 sub-top-2 : tie.Need-sub-top-2 Inv-loop μ-loop
 sub-top-2 c =
     let here = c .before .before .before in
     let start = start-of (here .before .before .before .before .before .before) in
-    omega (arith, binary-finds (found-binary here) (start .pre .value) (start .pre .gives))
+    omega (arith, binary-finds (found-binary here) (start .pre .value) (start .pre .gives) .0)
 
 loop-less-4 : tie.Need-loop-less-4 Inv-loop μ-loop
 loop-less-4 c =
@@ -352,7 +354,7 @@ loop-again-5 c =
 load-requires : tie.Need-load-requires Inv-loop μ-loop
 load-requires c κs =
     let loop = c .before .before .loop in
-    let start = c .before .before .before .before .before .before .before .before in
+    let start = c .before .before .before .before .before .before .before .before .before in
     let inv = loop .inv in
     let shape = closed (omega (arith, c .before .loop-test .left, inv .entries)) (inv .rest) (start .pre .value) (start .pre .gives) in
     let one = alone (memory start) (loop .waiting) (loop .top) (start .pre .value) shape in
@@ -367,7 +369,7 @@ returns : tie.Need-returns Inv-loop μ-loop
 returns c =
     let loop-test = c .before .before .loop-test in
     let loop = c .before .before .before .loop in
-    let start = c .before .before .before .before .before .before .before .before .before in
+    let start = c .before .before .before .before .before .before .before .before .before .before in
     let inv = loop .inv in
     λ v g.
     let shape = closed (omega (arith, loop-test .left, inv .entries)) (inv .rest) v g in

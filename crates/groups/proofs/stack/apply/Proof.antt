@@ -71,7 +71,7 @@ returns : tie.Need-returns
 returns c =
     let none = c .before .before .before .before in
     let start = none .before in
-    rw (c .before .r .given .1) (refl, refl, stayed (start .args .x) (start .args .count) (start .pre .0), none .unplaced .ensures)
+    λ o. rw (c .before .r .given .1) (refl, refl, stayed (start .args .x) (start .args .count) o (start .pre .0), none .unplaced .ensures)
 
 returns-2 : tie.Need-returns-2
 returns-2 c =
@@ -81,26 +81,26 @@ returns-2 c =
     let a = start .args in
     let sizes = start .good .1 .1 .1 .0 in
     let room = rw (r2 .given .1) at (start .pre .1) in
-    rw (r2 .given .1, c .before .digit .ensures .0) (refl, refl, pushed (a .x) (a .count) _ (a .n .0) room (search needs), none .unplaced .ensures)
+    λ o. rw (r2 .given .1, c .before .digit .ensures .0) (refl, refl, pushed (a .x) (a .count) o _ (a .n .0) room (search needs), none .unplaced .ensures)
 
 returns-3 : tie.Need-returns-3
 returns-3 c =
     let r3 = c .before .before .before .r3 in
     let none = c .before .before .before .before .before .before in
     let start = none .before in
-    rw (r3 .given .1, c .digit2 .ensures .0) (refl, refl, replaced (start .args .x) (start .args .count) _ (start .pre .0), none .unplaced .ensures)
+    λ o. rw (r3 .given .1, c .digit2 .ensures .0) (refl, refl, replaced (start .args .x) (start .args .count) o _ (start .pre .0), none .unplaced .ensures)
 
 returns-4 : tie.Need-returns-4
 returns-4 c =
     let r4 = c .before .before .r4 in
     let none = c .before .before .before .before .before in
     let start = none .before in
-    rw (r4 .given .1) (refl, refl, popped (start .args .x) (start .args .count) (start .pre .0), none .unplaced .ensures)
+    λ o. rw (r4 .given .1) (refl, refl, popped (start .args .x) (start .args .count) o (start .pre .0), none .unplaced .ensures)
 
 returns-5 : tie.Need-returns-5
 returns-5 c =
     let r5 = c .before .before .r5 in
-    rw (r5 .given .1) (c .refused .ensures)
+    λ o. rw (r5 .given .1) (c .refused .ensures)
 
 pub apply-spec : {M : Type 1} → statement M
 apply-spec =

@@ -4,7 +4,7 @@ use mathlib.Core.Bool.{not}
 use borrow.Author.Tests.{eq-eqb, ne-eqb, lt-ltb}
 use Rattle.codes.specs.Codes.{PCD}
 use Rattle.token.specs.Tokens.{Token}
-use Rattle.value.specs.Places.{over}
+use Rattle.value.specs.Places.{overAll}
 use Rattle.value.specs.Values.{isMissingPcd}
 use Rattle.value.specs.Denote.{denoteToken}
 use borrow.Author.Needs.{needs}
@@ -16,24 +16,24 @@ element-copy-out-if1 c = search needs
 
 returns : tie.Need-returns
 returns c =
-    let start = c .before .before .before .before .before .before .before in
+    let start = c .before .before .before .before .before .before .before .before in
     rw (lt-ltb _ _ (start .pre .1), ne-eqb _ _ (c .if1 .taken))
 
 token-at-requires : tie.Need-token-at-requires
 token-at-requires c κs =
-    let start = c .before .before .before .before .before .before .before in
+    let start = c .before .before .before .before .before .before .before .before in
     start .pre .0 .holding
 
 named-requires : tie.Need-named-requires
 named-requires c κs =
-    let start = c .before .before .before .before .before .before .before .before in
-    start .pre .0 .in-order
+    let start = c .before .before .before .before .before .before .before .before .before in
+    start .pre .0 .looked
 
 returns-2 : tie.Need-returns-2
 returns-2 c =
     let if1 = c .before .before .before .if1 in
-    let start = c .before .before .before .before .before .before .before .before .before .before in
-    let m = over (start .args .expr .now) (start .args .table .now) in
+    let start = c .before .before .before .before .before .before .before .before .before .before .before in
+    let m = overAll (start .args .expr .now) (start .args .own .now) (start .args .table .now) in
     let token = c .before .before .token-at in
     let k = token .result in
     let found = c .before .named .result .found in

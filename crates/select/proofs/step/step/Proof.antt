@@ -1,7 +1,9 @@
 -- The length decides, then the plan of the directive.
 use native.Mathlib.Omega.{arith}
 use mathlib.Core.Path.{_≡_, ap, _∙_}
+use mathlib.Core.List.{_++_}
 use lib.ListN.{length, length-drop}
+use Rattle.own.specs.Own.{scope}
 use Rattle.line.specs.Directives.{directiveOf, textStart}
 use Rattle.condition.specs.Conditions.{countOf, offsetOf, conditionOf}
 use Rattle.condition.proofs.Counts.{count-small}
@@ -21,9 +23,10 @@ refused-requires c κs = search needs
 
 returns : tie.Need-returns
 returns c =
-    let a = c .before .before .before .before .before .args in
+    let a = c .before .before .before .before .before .before .args in
+    λ o e.
     rw
-    (long-step (a .table .now) (a .dialect) (a .n .0) (denoteSelection (a .x)) (a .line .now) (c .before .before .if1 .taken), ← c .before .unplaced .ensures)
+    (long-step (a .table .now) (a .dialect) (a .n .0) (denoteSelection (a .x) o) (a .line .now) (c .before .before .if1 .taken), ← c .before .unplaced .ensures)
     (c .refused .ensures)
 
 innermost-requires : tie.Need-innermost-requires
@@ -40,7 +43,7 @@ apply-requires c κs =
     let told = c .before in
     let plans = told .before .before in
     let asks = plans .before in
-    let start = asks .before .before .before .before in
+    let start = asks .before .before .before .before .before in
     let a = start .args in (
       start .pre .2,
       unread-suits (a .x) (a .head .directive) _ (asks .innermost .ensures) _ (plans .plan .ensures) _ (told .plan2 .given .1),
@@ -53,7 +56,7 @@ enum-told c = search needs
 
 text-requires : tie.Need-text-requires
 text-requires c κs =
-    let start = c .before .before .before .before .before .before .before .before in
+    let start = c .before .before .before .before .before .before .before .before .before in
     start .pre .4 .within
 
 evaluate-requires : tie.Need-evaluate-requires
@@ -66,14 +69,14 @@ in-line-requires c κs =
     let plans = told .before .before in
     let asks = plans .before in
     let short = asks .before in
-    let start = short .before .before .before in
+    let start = short .before .before .before .before in
     let a = start .args in
     let l = a .line .now in
     let head = start .pre .4 in
     let planned =
     line-planned (a .x) (a .head .directive) _ (asks .innermost .ensures) _ (plans .plan .ensures) l Read (head .directive) (told .enum-told .given .1) in
     let handed = texts .text .ensures (head .starts (other-read _ _ planned)) in
-    let near = within-text (a .table .now) (a .head .directive) (texts .text .result .now) (a .dialect) in
+    let near = within-text (a .own .now ++ a .table .now) (a .head .directive) (texts .text .result .now) (a .dialect) in
     omega (arith, near, ap offsetOf (c .evaluate .ensures), ap length (handed .bytes), length-drop (textStart l) l, short .if1 .left, head .within)
 
 conclude-requires : tie.Need-conclude-requires
@@ -90,9 +93,9 @@ apply-requires-2 c κs =
     let told = texts .before .before in
     let plans = told .before .before in
     let asks = plans .before in
-    let start = asks .before .before .before .before in
+    let start = asks .before .before .before .before .before in
     let a = start .args in
-    let small = count-small (a .table .now) (a .head .directive) (texts .text .result .now) (a .dialect) in
+    let small = count-small (a .own .now ++ a .table .now) (a .head .directive) (texts .text .result .now) (a .dialect) in
     let count = ap countOf (places .in-line .ensures) ∙ same-count (a .head .text .0) (says .evaluate .result) in (
       start .pre .2,
       read-suits (a .x) (a .head .directive) _ (asks .innermost .ensures) _ (plans .plan .ensures) _ (places .in-line .result) (told .enum-told .given .1)
@@ -107,12 +110,15 @@ returns-2 c =
     let plans = told .before .before in
     let asks = plans .before in
     let short = asks .before in
-    let start = short .before .before .before in
+    let start = short .before .before .before .before in
     let a = start .args in
     let l = a .line .now in
     let planned =
     line-planned (a .x) (a .head .directive) _ (asks .innermost .ensures) _ (plans .plan .ensures) l _ (start .pre .4 .directive) (told .plan2 .given .1) in
-    rw (planned-step (a .table .now) (a .dialect) (a .n .0) (denoteSelection (a .x)) l _ (short .if1 .left) planned) (c .apply .ensures)
+    λ o e.
+    let s = denoteSelection (a .x) o in
+    let other = start .pre .5 (short .if1 .left) in
+    rw (planned-step (a .table .now) (a .dialect) (a .n .0) s l _ (short .if1 .left) other planned) (c .apply .ensures o)
 
 returns-3 : tie.Need-returns-3
 returns-3 c =
@@ -125,7 +131,7 @@ returns-3 c =
     let plans = told .before .before in
     let asks = plans .before in
     let short = asks .before in
-    let start = short .before .before .before in
+    let start = short .before .before .before .before in
     let a = start .args in
     let l = a .line .now in
     let head = start .pre .4 in
@@ -133,17 +139,20 @@ returns-3 c =
     line-planned (a .x) (a .head .directive) _ (asks .innermost .ensures) _ (plans .plan .ensures) l Read (head .directive) (told .enum-told .given .1) in
     let at = head .starts (other-read _ _ planned) in
     let handed = texts .text .ensures at in
-    let said : places .in-line .result ≡ conditionOf (a .table .now) (directiveOf l) l (a .dialect) =
-    places .in-line .ensures ∙ rw (says .evaluate .ensures, at, head .directive, handed .bytes) in
+    λ o e.
+    let s = denoteSelection (a .x) o in
+    let other = start .pre .5 (short .if1 .left) in
+    let said : places .in-line .result ≡ conditionOf (scope o (a .table .now)) (directiveOf l) l (a .dialect) =
+    places .in-line .ensures ∙ rw (says .evaluate .ensures, at, head .directive, handed .bytes, e) in
     rw (
-      planned-step (a .table .now) (a .dialect) (a .n .0) (denoteSelection (a .x)) l Read (short .if1 .left) planned,
+      planned-step (a .table .now) (a .dialect) (a .n .0) s l Read (short .if1 .left) other planned,
       ← said,
       ← counts .count-of .ensures,
       ← head .directive,
       ← asks .innermost .ensures,
       ← concludes .conclude .ensures,
     )
-    (c .apply2 .ensures)
+    (c .apply2 .ensures o)
 
 pub step-spec : {M : Type 1} → statement M
 step-spec =

@@ -1,6 +1,6 @@
 -- Each attribute is that of the definition.
 use native.Mathlib.Omega.{arith}
-use Rattle.value.specs.Places.{over}
+use Rattle.value.specs.Places.{overAll}
 use Rattle.value.specs.Values.{binaryValue}
 use Rattle.value.proofs.Laws.{skipped-most}
 use borrow.Author.Needs.{needs}
@@ -22,21 +22,21 @@ binary-requires c κs = search needs
 unless-requires : tie.Need-unless-requires
 unless-requires c κs = search needs
 
-add-t16 : tie.Need-add-t16
-add-t16 c =
-    let start = c .before .before .before .before .before .before .before .before in
-    omega (arith, c .before .unless .ensures, skipped-most (c .before .before .before .skips .result) (start .args .b .count), start .pre)
-
 add-t17 : tie.Need-add-t17
 add-t17 c =
-    let start = c .before .before .before .before .before .before .before .before in
-    omega (arith, c .before .unless .ensures, skipped-most (c .before .before .before .skips .result) (start .args .b .count), start .pre)
+    let start = c .before .before .before .before .before .before .before .before .before in
+    omega (arith, c .before .unless .ensures, skipped-most (c .before .before .before .skips .result) (start .args .b .count), start .pre .0)
+
+add-t18 : tie.Need-add-t18
+add-t18 c =
+    let start = c .before .before .before .before .before .before .before .before .before in
+    omega (arith, c .before .unless .ensures, skipped-most (c .before .before .before .skips .result) (start .args .b .count), start .pre .0)
 
 returns : tie.Need-returns
 unfolding binaryValue
 returns c =
-    let start = c .before .before .before .before .before .before .before .before in
-    let m = over (start .args .expr .now) (start .args .table .now) in
+    let start = c .before .before .before .before .before .before .before .before .before in
+    let m = overAll (start .args .expr .now) (start .args .own .now) (start .args .table .now) in
     let kind = c .before .before .before .before .of-binary .ensures in
     let value = c .before .before .binary .ensures in
     let at = c .before .before .before .before .before .place .ensures .0 in
@@ -51,6 +51,6 @@ of-binary-spec =
     skips-requires
     binary-requires
     unless-requires
-    add-t16
     add-t17
+    add-t18
     returns)

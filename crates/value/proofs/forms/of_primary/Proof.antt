@@ -1,7 +1,7 @@
 -- The code of the token decides.
 use mathlib.Core.Path.{_∙_}
 use native.Mathlib.Nat.{add-zero, sub-zero}
-use Rattle.value.specs.Places.{over}
+use Rattle.value.specs.Places.{overAll}
 use borrow.Author.Tests.{ne-eqb}
 use Rattle.value.specs.Values.{primaryValue}
 use borrow.Author.Needs.{needs}
@@ -39,24 +39,24 @@ returns : tie.Need-returns
 unfolding primaryValue
 returns c =
     let match = c .before .before .match in
-    let start = c .before .before .before .before .before in
-    let m = over (start .args .expr .now) (start .args .table .now) in
+    let start = c .before .before .before .before .before .before in
+    let m = overAll (start .args .expr .now) (start .args .own .now) (start .args .table .now) in
     c .plain .ensures m ∙ rw (c .before .inner .ensures, match .keys1)
 
 returns-2 : tie.Need-returns-2
 unfolding primaryValue
 returns-2 c =
     let match = c .before .before .match in
-    let start = c .before .before .before .before .before in
-    let m = over (start .args .expr .now) (start .args .table .now) in
+    let start = c .before .before .before .before .before .before in
+    let m = overAll (start .args .expr .now) (start .args .own .now) (start .args .table .now) in
     c .plain2 .ensures m ∙ rw (c .before .inner2 .ensures, match .keys2)
 
 returns-3 : tie.Need-returns-3
 unfolding primaryValue
 returns-3 c =
     let match = c .before .before .match in
-    let start = c .before .before .before .before .before in
-    let m = over (start .args .expr .now) (start .args .table .now) in
+    let start = c .before .before .before .before .before .before in
+    let m = overAll (start .args .expr .now) (start .args .own .now) (start .args .table .now) in
     c .plain3 .ensures m ∙ rw (c .before .inner3 .ensures, match .keys3, add-zero, sub-zero)
 
 returns-4 : tie.Need-returns-4
@@ -70,8 +70,8 @@ returns-5 c = c .of-name2 .ensures ∙ rw (c .before .match .keys5)
 returns-6 : tie.Need-returns-6
 unfolding primaryValue
 returns-6 c =
-    let start = c .before .before .before .before in
-    let m = over (start .args .expr .now) (start .args .table .now) in
+    let start = c .before .before .before .before .before in
+    let m = overAll (start .args .expr .now) (start .args .own .now) (start .args .table .now) in
     let r = c .before .match .rest in
     c .plain4 .ensures m
     ∙ rw (ne-eqb _ _ (r .0 .0 .0 .0 .1), ne-eqb _ _ (r .0 .0 .0 .1), ne-eqb _ _ (r .0 .0 .1), ne-eqb _ _ (r .0 .1), ne-eqb _ _ (r .1))

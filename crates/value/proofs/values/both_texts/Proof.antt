@@ -1,8 +1,7 @@
 -- The tests are those of the definition, in order.
 use mathlib.Core.Path.{_∙_}
 use borrow.Author.Tests.{not-true, not-false}
-use Rattle.value.specs.Places.{over}
-use Rattle.value.proofs.Parts.{part-bytes}
+use Rattle.value.specs.Places.{overAll}
 use borrow.Author.Needs.{needs}
 use Rattle.value.proofs.values.both_texts.Statement.{statement}
 use Rattle.value.proofs.values.both_texts.Tie as tie
@@ -21,19 +20,19 @@ unsuited-requires c κs = search needs
 
 returns : tie.Need-returns
 returns c =
-    let start = c .before .before .before .before .before .before .before in
+    let start = c .before .before .before .before .before .before .before .before in
     let of-text = c .before .before .before .before .of-text in
     let of-text2 = c .before .before .before .of-text2 in
     let suits = c .before .before .suits in
     let if1 = c .before .if1 in
-    let m = over (start .args .expr .now) (start .args .table .now) in
+    let m = overAll (start .args .expr .now) (start .args .own .now) (start .args .table .now) in
     rw (← of-text .ensures, ← of-text2 .ensures, ← suits .ensures, not-true (suits .result) (if1 .taken)) (c .unsuited .ensures m)
 
-bytes-requires : tie.Need-bytes-requires
-bytes-requires c κs = search needs
+bytes-in-requires : tie.Need-bytes-in-requires
+bytes-in-requires c κs = search needs
 
-bytes-requires-2 : tie.Need-bytes-requires-2
-bytes-requires-2 c κs = search needs
+bytes-in-requires-2 : tie.Need-bytes-in-requires-2
+bytes-in-requires-2 c κs = search needs
 
 compare-requires : tie.Need-compare-requires
 compare-requires c κs = search needs
@@ -43,19 +42,17 @@ comparison-requires c κs = search needs
 
 returns-2 : tie.Need-returns-2
 returns-2 c =
-    let bytes = c .before .before .before .bytes in
-    let bytes2 = c .before .before .bytes2 in
+    let bytes = c .before .before .before .bytes-in in
+    let bytes2 = c .before .before .bytes-in2 in
     let of-text = c .before .before .before .before .before .before .before .of-text in
     let of-text2 = c .before .before .before .before .before .before .of-text2 in
     let suits = c .before .before .before .before .before .suits in
     let if1 = c .before .before .before .before .if1 in
     let compare = c .before .compare in
-    let s = c .before .before .before .before .before .before .before .before .before .before .args in
-    let m = over (s .expr .now) (s .table .now) in
-    let first = part-bytes (s .expr) (s .table) (s .p) (bytes .result) (bytes .ensures) in
-    let second = part-bytes (s .expr) (s .table) (s .q) (bytes2 .result) (bytes2 .ensures) in
+    let s = c .before .before .before .before .before .before .before .before .before .before .before .args in
+    let m = overAll (s .expr .now) (s .own .now) (s .table .now) in
     rw (← of-text .ensures, ← of-text2 .ensures, ← suits .ensures, not-false (suits .result) (if1 .left))
-    (c .comparison .ensures m ∙ rw (compare .ensures, first, second))
+    (c .comparison .ensures m ∙ rw (compare .ensures, bytes .ensures, bytes2 .ensures))
 
 pub both-texts-spec : {M : Type 1} → statement M
 both-texts-spec =
@@ -66,8 +63,8 @@ both-texts-spec =
     suits-requires
     unsuited-requires
     returns
-    bytes-requires
-    bytes-requires-2
+    bytes-in-requires
+    bytes-in-requires-2
     compare-requires
     comparison-requires
     returns-2)

@@ -1,0 +1,9 @@
+pub mod Counts
+pub mod Shapes
+pub mod Limits
+pub mod Answers
+pub mod MacroNames
+pub mod Sets
+pub mod Pieces
+pub mod LineParts
+pub mod Outcomes

@@ -1,0 +1,4 @@
+pub mod Define
+pub mod Lines
+pub mod Outcomes
+pub mod Settling

@@ -1,0 +1,9 @@
+pub mod FieldNames
+pub mod Index
+pub mod Padded
+pub mod Fields
+pub mod Records
+pub mod Putting
+pub mod BufferHolds
+pub mod RecordShape
+pub mod OwnNames
