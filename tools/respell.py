@@ -126,10 +126,20 @@ def other_names(text):
     return {name: respelled(name) for name in re.findall(r" as ([a-z]\w*[A-Z]\w*)(?=[,}])", text)}
 
 
+def kit_names(text):
+    """The names that a file has from the kit's libraries: they keep the kit's spelling."""
+    there = set()
+    for module, items in re.findall(r"(?m)^(?:ghost )?use ([^\s{]+)\.\{([^}]*)\}", text):
+        if not os.path.isdir("crates/" + (module.split(".") + [""])[1]) or not module.startswith("Rattle."):
+            there |= {item.strip().split(" as ")[0] for item in items.split(",")}
+    return there
+
+
 def turn(path, names):
     text = text_of(path)
     if path.endswith((".antt", ".rt")):
-        names = names | other_names(text)
+        kit = kit_names(text)
+        names = {old: new for old, new in names.items() if old not in kit} | other_names(text)
     if path.endswith(".md"):
         return text, re.sub(r"`[^`\n]+`", lambda span: turn_words(span[0], names), text)
     if path.endswith(".edit"):

@@ -1,4 +1,6 @@
 // The condition in the text of a directive.
+#![tactic(auto)]
+
 mod blanks;
 mod expressions;
 mod macros;

@@ -11,7 +11,7 @@ use units::{Dialect, Offset};
 use value::forms;
 
 // The name of a macro at the front of a text: its start, its length, which is 0 if there is none, and the start of the text after it.
-#[derive(Drop)]
+#[derive(Clone, Copy)]
 pub struct Named {
     pub start: Offset,
     pub len: usize,

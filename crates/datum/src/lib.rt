@@ -1,4 +1,6 @@
 // The bytes of one PCD data field: a number, a string or a wide string at the front of the caller's buffer, or a refusal.
+#![tactic(auto)]
+
 mod sizes;
 mod store;
 pub mod types;
@@ -11,7 +13,7 @@ ghost use Rattle.datum.specs.Encoding.{bytes, unfit, terminated, widened, number
 use units::Refusal;
 
 // The length of the field, or a refusal.
-#[derive(Drop)]
+#[derive(Clone, Copy)]
 pub enum Written {
     Length(usize),
     Refused(Refusal),

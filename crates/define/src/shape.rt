@@ -9,7 +9,7 @@ use text::{bytes, names, runs};
 use units::Offset;
 
 // The name of the macro, by its start and its length, and the start of the expression. The length is 0 if the line has not this shape.
-#[derive(Drop)]
+#[derive(Clone, Copy)]
 pub struct Parts {
     pub name: Offset,
     pub len: usize,

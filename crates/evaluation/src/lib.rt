@@ -1,11 +1,13 @@
 // The answer to an expression: its value and the number of operators that were applied, or a refusal.
+#![tactic(auto)]
+
 pub mod outcome;
 
 use lookup::Place;
 use units::Refusal;
 
 // A value by its kind. A string is a part of the expression or of the table.
-#[derive(Drop)]
+#[derive(Clone, Copy)]
 pub enum AnswerValue {
     Number(u64),
     String(Place),
@@ -13,7 +15,7 @@ pub enum AnswerValue {
 }
 
 // A value with the count of operators, or the refusal.
-#[derive(Drop)]
+#[derive(Clone, Copy)]
 pub enum Answer {
     Value(AnswerValue, usize),
     Refused(Refusal),

@@ -1,4 +1,6 @@
 // One PCD data field: the value of an expression in the bytes of its datum.
+#![tactic(auto)]
+
 ghost use Rattle.value.specs.Places.{over};
 ghost use Rattle.datum.specs.Encoding.{Writes};
 ghost use Rattle.field.specs.Fields.{field_of};

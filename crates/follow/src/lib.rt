@@ -1,4 +1,6 @@
 // A line that is fed to a running selection.
+#![tactic(auto)]
+
 pub mod feeding;
 mod judging;
 
@@ -7,7 +9,7 @@ use progress::Running;
 use units::{Fault, Refusal};
 
 // A line that was fed: its mark and the running selection after it; or its refusal and the running selection before it.
-#[derive(Drop)]
+#[derive(Clone, Copy)]
 pub struct Fed {
     // first, so that it is copied as a whole
     pub next: Running,
@@ -17,7 +19,7 @@ pub struct Fed {
 }
 
 // The outcome of a line: its mark, and the selection and the number of bytes of the settings after it; or its refusal.
-#[derive(Drop)]
+#[derive(Clone, Copy)]
 pub struct Judged {
     pub next: Selection,
     pub used: usize,

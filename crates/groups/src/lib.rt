@@ -1,11 +1,13 @@
 // The open groups of a selection: their rules, and the numbers that hold them.
+#![tactic(auto)]
+
 pub mod rules;
 pub mod stack;
 
 use units::Fault;
 
 // What the rules know of a group.
-#[derive(Drop)]
+#[derive(Clone, Copy)]
 pub struct Flags {
     // the branch around the whole group is taken, or there is none around it
     pub around: bool,
@@ -19,14 +21,14 @@ pub struct Flags {
 
 // The number of open groups and the flags of the innermost one. Outside all groups, the branch around counts as taken, and so does the
 // current one.
-#[derive(Drop)]
+#[derive(Clone, Copy)]
 pub struct Innermost {
     pub depth: usize,
     pub flags: Flags,
 }
 
 // What a line does to the open groups, with its mark, or its refusal.
-#[derive(Drop)]
+#[derive(Clone, Copy)]
 pub enum Transition {
     Stay(u8),
     Push(u8, Flags),
@@ -36,7 +38,7 @@ pub enum Transition {
 }
 
 // Whether a directive is read, and what it does if not.
-#[derive(Drop)]
+#[derive(Clone, Copy)]
 pub enum Plan {
     Read,
     Unread(Transition),
@@ -47,7 +49,7 @@ pub enum Plan {
 // each step, and a number stays in a register, while an array goes through memory. The first line is that of the outermost group; digits
 // and lines from `depth` on have no meaning.
 #[repr(C)]
-#[derive(Drop)]
+#[derive(Clone, Copy)]
 pub struct Selection {
     pub depth: usize,
     pub count: usize,
@@ -57,7 +59,7 @@ pub struct Selection {
 
 // The outcome of a line: its mark and the selection after it; or its refusal, the selection before it and the mark 0.
 // The refusal of a line that is not refused is 0 at place 0.
-#[derive(Drop)]
+#[derive(Clone, Copy)]
 pub struct Step {
     // first, so that it is copied as a whole
     pub next: Selection,

@@ -1,4 +1,6 @@
 // The record under a name in a table of settings, found by halving.
+#![tactic(auto)]
+
 ghost use Rattle.std.specs.Prelude.{◌≡◌, ◌≤◌, length, take};
 ghost use Rattle.text.specs.Order.{compared};
 ghost use Rattle.text.specs.Runs.{span};
@@ -12,7 +14,7 @@ use text::{bytes, eight, parts, runs};
 use units::Offset;
 
 // Whether a record has the name, which one, counted from 0, and how many names were compared.
-#[derive(Drop)]
+#[derive(Clone, Copy)]
 pub struct Found {
     pub there: bool,
     pub at: usize,

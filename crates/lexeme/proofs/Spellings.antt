@@ -2,7 +2,7 @@
 use Prim.Native.Nat.{ℕ, ◌<◌}
 use native.Mathlib.Omega.{arith}
 use mathlib.Core.Path.{◌≡◌, refl, sym, ap, ◌∙◌}
-use mathlib.Core.Bool.{Bool, true, false, ◌&&◌, and_true, false≢true}
+use mathlib.Core.Bool.{Bool, true, false, ◌&&◌, and-true, false≢true}
 use mathlib.Core.List.{List, [], ◌∷◌}
 use lib.ListN.{length, get_or}
 use lib.Dec.{eqb, ltb}
@@ -61,10 +61,10 @@ begins_hits : (t s : List ℕ) → short t ≡ true → begins t s ≡ hits t (g
 unfolding begins
 begins_hits [] s e = refl
 begins_hits (x ∷ []) [] e = sym (zero_not x e)
-begins_hits (x ∷ []) (b ∷ s) e = and_true (eqb b x)
+begins_hits (x ∷ []) (b ∷ s) e = and-true (eqb b x)
 begins_hits (x ∷ y ∷ []) [] e = rw (zero_not x (and_left (ltb 0 x) (ltb 0 y) e))
 begins_hits (x ∷ y ∷ []) (b ∷ []) e = rw (zero_not y (and_right (ltb 0 x) (ltb 0 y) e))
-begins_hits (x ∷ y ∷ []) (b ∷ b' ∷ s) e = rw (and_true (eqb b' y))
+begins_hits (x ∷ y ∷ []) (b ∷ b' ∷ s) e = rw (and-true (eqb b' y))
 begins_hits (x ∷ y ∷ z ∷ t) s e = absurd (false≢true e)
 
 -- the first spelling that agrees with the two bytes

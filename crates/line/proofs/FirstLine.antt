@@ -4,7 +4,7 @@ use native.Mathlib.Nat.{add-zero}
 use native.Mathlib.Omega.{arith}
 use mathlib.Core.Path.{◌≡◌, refl, ap, ◌∙◌}
 use mathlib.Core.List.{List, [], ◌∷◌}
-use mathlib.Core.Bool.{Bool, true, false, ◌&&◌, and_false}
+use mathlib.Core.Bool.{Bool, true, false, ◌&&◌, and-false}
 use lib.ListN.{length, get_or, take, drop, length-drop}
 use lib.Seq.{drop-drop, get_or-drop}
 use lib.Dec.{eqb, ltb, leb-suc-suc}
@@ -33,7 +33,7 @@ module _ (b : ℕ) where
   one_byte : (t : Bool) → eqb b (byte "\n") ≡ t → Splits (b ∷ [])
   unfolding lines onto ends_line span line_end
   one_byte true e = rw e
-  one_byte false e = rw (e, and_false (eqb b (byte "\r")))
+  one_byte false e = rw (e, and-false (eqb b (byte "\r")))
 
   empty_line : (s : List ℕ) → eqb b (byte "\n") ≡ true → Splits (b ∷ s)
   unfolding lines span line_end
@@ -49,7 +49,7 @@ module _ (b : ℕ) where
     module _ (ec : eqb c (byte "\n") ≡ false) where
       more_lines : lines (b ∷ c ∷ s) ≡ onto b (lines (c ∷ s))
       unfolding lines ends_line
-      more_lines = rw (eb, ec, and_false (eqb b (byte "\r")))
+      more_lines = rw (eb, ec, and-false (eqb b (byte "\r")))
 
       span_one : span NotLineFeed (c ∷ s) ≡ suc (span NotLineFeed s)
       unfolding span
@@ -97,7 +97,7 @@ module _ (f : List ℕ) (a : ℕ) where
   -- the end of a line, counted from the file's start and from the line's
   shifted : (k : ℕ) → line_end f a (a + k) ≡ a + line_end (drop a f) 0 k
   unfolding line_end
-  shifted zero = simp (add-zero, le-ltb a a (omega arith), and_false)
+  shifted zero = simp (add-zero, le-ltb a a (omega arith), and-false)
   shifted (suc k) =
       let n : a + suc k - 1 ≡ a + k = omega arith in
       rw (lt-ltb a (a + suc k) (omega arith), n, same_bound (suc k), ← get_or-drop a f k 0, end_at (drop a f) k)
@@ -141,11 +141,11 @@ module _ (f : List ℕ) (a e : ℕ) where
 
   pub end_empty : e ≤ a → e ≡ line_end f a e
   unfolding line_end
-  end_empty h = rw (le-ltb a e h, and_false)
+  end_empty h = rw (le-ltb a e h, and-false)
 
   pub end_no_cr : (get_or f (e - 1) 0 ≡ byte "\r" → ⊥) → e ≡ line_end f a e
   unfolding line_end
-  end_no_cr h = rw (ne_eqb _ _ h, and_false (ltb a e), and_false)
+  end_no_cr h = rw (ne_eqb _ _ h, and-false (ltb a e), and-false)
 
   pub end_cr : e < length f → a < e → get_or f (e - 1) 0 ≡ byte "\r" → e - 1 ≡ line_end f a e
   unfolding line_end

@@ -10,7 +10,7 @@ use text::runs::Set;
 use units::{LineNumber, Offset};
 
 // The end of a line, and the start of the next one: at the end of the file or past it if there is none.
-#[derive(Drop)]
+#[derive(Clone, Copy)]
 pub struct Cut {
     pub end: Offset,
     pub after: Offset,

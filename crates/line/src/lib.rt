@@ -1,11 +1,13 @@
 // The lines of a file and their directives.
+#![tactic(auto)]
+
 pub mod cut;
 pub mod word;
 
 use units::{Fault, Offset};
 
 // The directive of a line by its word, or that the line is plain.
-#[derive(Drop)]
+#[derive(Clone, Copy)]
 pub enum Directive {
     Plain,
     If,
@@ -18,7 +20,7 @@ pub enum Directive {
 }
 
 // The head of a line: its directive, and the start of the text after its word.
-#[derive(Drop)]
+#[derive(Clone, Copy)]
 pub struct Head {
     pub directive: Directive,
     pub text: Offset,
@@ -26,7 +28,7 @@ pub struct Head {
 
 // The condition of a directive: it holds or fails, with the number of operators that were applied, or it is refused, with the place in the
 // text after the word or in the line. The crate `condition` evaluates it.
-#[derive(Drop)]
+#[derive(Clone, Copy)]
 pub enum Condition {
     Holds(usize),
     Fails(usize),

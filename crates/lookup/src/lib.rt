@@ -1,4 +1,6 @@
 // The setting under a name in a table of settings.
+#![tactic(auto)]
+
 ghost use Rattle.std.specs.Prelude.{◌≡◌, ◌+◌, ◌^◌, ◌<◌, length, ◌++◌};
 ghost use Rattle.lookup.specs.Setting.{clipped, value_at, setting_under, start_of, moved as moved_by, Looked, LooksUp};
 
@@ -6,14 +8,14 @@ use text::eight;
 use units::{Fault, Offset};
 
 // The memory that a string is in.
-#[derive(Drop)]
+#[derive(Clone, Copy)]
 pub enum Home {
     Expression,
     Table,
 }
 
 // The place of a string: a part of its home.
-#[derive(Drop)]
+#[derive(Clone, Copy)]
 pub struct Place {
     pub home: Home,
     pub start: Offset,
@@ -21,14 +23,14 @@ pub struct Place {
 }
 
 // The kinds of strings.
-#[derive(Drop)]
+#[derive(Clone, Copy)]
 pub enum TextKind {
     String,
     Wide,
 }
 
 // A value, or the fault that evaluation met first.
-#[derive(Drop)]
+#[derive(Clone, Copy)]
 pub enum Value {
     Number(u64),
     Text(TextKind, Place),
@@ -36,7 +38,7 @@ pub enum Value {
 }
 
 // Whether a name is set, and its value: the number 0 if it is not.
-#[derive(Drop)]
+#[derive(Clone, Copy)]
 pub struct Setting {
     pub found: bool,
     pub value: Value,

@@ -10,7 +10,7 @@ use value::{Attributes, Kind, kinds};
 
 // The numbers of a value: its shape, its number or the start of its string, and the length and the home of the string; or the number and the
 // place of a fault.
-#[derive(Drop)]
+#[derive(Clone, Copy)]
 pub struct Shaped {
     pub shape: usize,
     pub first: usize,

@@ -1,4 +1,6 @@
 // The settings that the lines of a file make, as records in front of the table.
+#![tactic(auto)]
+
 ghost use Rattle.std.specs.Prelude.{◌≡◌, false, List, [], ◌∷◌, ◌++◌, ◌≤◌, length};
 ghost use Rattle.text.specs.Order.{equal};
 ghost use Rattle.text.specs.Numbers.{lowest_bytes};
@@ -68,7 +70,7 @@ fn fill_record(r: &mut [u8], name: &[u8], kind: u8, len: u8, content: &[u8; 56])
 }
 
 // Whether there was room for a setting, and how many bytes of the buffer are used then.
-#[derive(Drop)]
+#[derive(Clone, Copy)]
 pub struct Filled {
     pub ok: bool,
     pub used: usize,

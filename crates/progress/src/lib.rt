@@ -1,4 +1,6 @@
 // The struct of a running selection, and how any bytes of it are read.
+#![tactic(auto)]
+
 ghost use Rattle.std.specs.Prelude.{◌≡◌, ◌≤◌, length, eqb};
 ghost use Rattle.text.specs.Names.{macro_name};
 ghost use Rattle.settings.specs.Table.{records, unpadded};
@@ -12,7 +14,7 @@ use units::Offset;
 // The lines so far: the selection after them, how many bytes and lines they were, whether the last had no LF (0 if it had one), and how
 // many bytes of the settings are used. The settings that DEFINE lines made are in a buffer beside it.
 #[repr(C)]
-#[derive(Drop)]
+#[derive(Clone, Copy)]
 pub struct Running {
     pub selection: Selection,
     pub bytes: usize,

@@ -1,1 +1,2 @@
 // The value of an expression has its kind, and does not depend on places: theorems only. The code is in the crate `value`.
+#![tactic(auto)]

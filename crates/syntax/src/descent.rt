@@ -12,7 +12,7 @@ use codes::levels;
 use units::TokenNumber;
 
 // The token at which parsing fails, or the number of entries written and the token after the expression.
-#[derive(Drop)]
+#[derive(Clone, Copy)]
 pub enum Postfix {
     Bad(TokenNumber),
     Order(usize, TokenNumber),

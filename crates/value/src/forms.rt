@@ -13,7 +13,7 @@ use text::parts;
 use units::Offset;
 
 // A token in the arrays of the scanner.
-#[derive(Drop)]
+#[derive(Clone, Copy)]
 pub struct Token {
     pub code: u8,
     pub start: u16,
