@@ -70,7 +70,11 @@ from_list us (t ∷ ts) =
     let here : token_in (us ++ (t ∷ ts)) (length us) ≡ t = get_d_at us t ts in
     let more : us ++ (t ∷ ts) ≡ (us ++ (t ∷ [])) ++ ts = sym (append_assoc us (t ∷ []) ts) in
     let long : length us + 1 ≡ length (us ++ (t ∷ [])) = sym (length-append us (t ∷ [])) in
-    rw here (rw (more, long, from_list (us ++ (t ∷ [])) ts))
+    let step : tokens_from (token_in (us ++ (t ∷ ts))) (length us + 1) (length ts)
+        ≡ tokens_from (token_in ((us ++ (t ∷ [])) ++ ts)) (length (us ++ (t ∷ []))) (length ts) =
+        ap (λ (l : List Token). tokens_from (token_in l) (length us + 1) (length ts)) more
+        ∙ ap (λ (k : ℕ). tokens_from (token_in ((us ++ (t ∷ [])) ++ ts)) k (length ts)) long in
+    rw here (ap (λ (l : List Token). t ∷ l) (step ∙ from_list (us ++ (t ∷ [])) ts))
 
 module _ (m : Memory) (δ : Dialect) {cs₀ ss₀ ls₀ vs₀ cs ss ls vs : List ℕ} (room : Room (reading m.expression δ) cs₀ ss₀ ls₀ vs₀)
     (so : Stored (reading m.expression δ) cs₀ ss₀ ls₀ vs₀ cs ss ls vs)
