@@ -48,7 +48,9 @@ APART = {
     )
 } | {"well-formed": "is_well_formed"}
 # The same in these files alone; elsewhere the name is a constructor.
-APART_IN = {"crates/blocks/proofs/StrayLine.antt": {"at-end": "at_end_lem"}}
+APART_IN = {
+    "crates/blocks/proofs/%s.antt" % name: {"at-end": "at_end_lem"} for name in ("StrayLine", "Refused", "SelectionFaults")
+}
 
 
 def files(top, endings):

@@ -35,7 +35,7 @@ use Rattle.blocks.proofs.PassedLines.{closers, completed, passes_back}
 use Rattle.blocks.proofs.Stray.{move_or_stray, not_both, refuses}
 use Rattle.blocks.proofs.TooDeep.{full, deeper, refused_deep}
 use Rattle.blocks.proofs.Stops.{Stopped, Ended, refused_where, passes_on, passes_append}
-use Rattle.blocks.proofs.StrayLine.{at_end}
+use Rattle.blocks.proofs.StrayLine.{at_end_lem}
 use Rattle.blocks.proofs.Unfinished.{unfinished}
 use Rattle.blocks.proofs.OneInnermost.{one_innermost}
 use Rattle.blocks.proofs.PassableLines.{limit_append, closers_short, passes_short, rest_derives, passes_passable, passable_passes}
@@ -199,7 +199,7 @@ module _ (t : List ℕ) (δ : Dialect) (ls : List (List ℕ)) (x : Fault) (n : �
             reason = stop_reason t δ w.before w.state w.passes w.at x k;
           })
       by (inr w) =
-          let z = at_end w.state.groups w.state.count x n w.unclosed in
+          let z = at_end_lem w.state.groups w.state.count x n w.unclosed in
           let u = unfinished t δ ls w.state w.passes in
           let not-whole : Whole ls → ⊥ = λ d. let a = u.0 d in never _ x n a.0 w.state.count (sym e ∙ a.1) in
           let i = u.1 not-whole in

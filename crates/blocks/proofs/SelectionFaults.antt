@@ -23,7 +23,7 @@ use Rattle.select.specs.Select.{MAX_FILE, MAX_LINES, Result, refused, run, start
 use Rattle.select.proofs.Steps.{said, told}
 use Rattle.blocks.specs.Passing.{Reaches}
 use Rattle.blocks.proofs.Stops.{Stopped, Ended, refused_where}
-use Rattle.blocks.proofs.StrayLine.{at_end}
+use Rattle.blocks.proofs.StrayLine.{at_end_lem}
 use Rattle.blocks.proofs.OwnOrText.{Bare, bare, FromLine, step_from}
 
 -- the line at which a run stops, and the state before it
@@ -73,7 +73,7 @@ module _ (f t : List ℕ) (δ : Dialect) (x : Fault) (n : ℕ) where
     where
       by : Stopped t δ 1 start (lines f) x n ⊎ Ended t δ 1 start (lines f) x n → Bare x ⊎ OfText
       by (inl w) = stopped_explains w
-      by (inr w) = let q = at_end w.state.groups w.state.count x n w.unclosed in inl (rw q (bare FILE_UNFINISHED (omega arith) (omega arith)))
+      by (inr w) = let q = at_end_lem w.state.groups w.state.count x n w.unclosed in inl (rw q (bare FILE_UNFINISHED (omega arith) (omega arith)))
 
   early : (k : ℕ) → Bare (unplaced k) → Explains (refused (unplaced k) 0)
   early k h e = let q : x ≡ unplaced k = cc in inl (rw q h)
