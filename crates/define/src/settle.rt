@@ -57,8 +57,9 @@ fn put(
     count: usize,
 ) -> Defined
     requires { used ≤ 8192 }
-    ensures used_bound { (result.used ≤ 8192) × (length own.new ≡ 8192) × (result.ok ≡ false → own.new ≡ own.old) }
+    ensures used_bound { (result.used ≤ 8192) × (length own.new ≡ 8192) }
     ensures does { (x : Own) (o : List Own) → IsSetting x name.now kind len content.now → Holds own.old used o → Does (limited o x count) o own.new result }
+    ensures unchanged { result.ok ≡ false → own.new ≡ own.old }
 {
     let f = own::put(own, used, name, kind, len, content);
     let ok = f.ok;
@@ -88,8 +89,9 @@ fn put_text<'a>(
     count: usize,
 ) -> Defined
     requires { (used ≤ 8192) × (used % 128 ≡ 0) × InRecord p }
-    ensures used_bound { (result.used ≤ 8192) × (length own.new ≡ 8192) × (result.ok ≡ false → own.new ≡ own.old) }
+    ensures used_bound { (result.used ≤ 8192) × (length own.new ≡ 8192) }
     ensures does { (o : List Own) → Holds own.old used o → Does (limited_text o (record { name = name.entry.now; kind = kind; content = bytes_at (over_all expr.now (take used own.old) table.now) p }) count) o own.new result }
+    ensures unchanged { result.ok ≡ false → own.new ≡ own.old }
 {
     let all = &own[..];
     let s = values::bytes_in(expr, &all[0..used], table, p);
@@ -112,8 +114,9 @@ fn of_answer<'a>(
     a: Answer,
 ) -> Defined
     requires { (used ≤ 8192) × (used % 128 ≡ 0) × Handed start.0 a × (length own.old ≡ 8192) }
-    ensures used_bound { (result.used ≤ 8192) × (length own.new ≡ 8192) × (result.ok ≡ false → own.new ≡ own.old) }
+    ensures used_bound { (result.used ≤ 8192) × (length own.new ≡ 8192) }
     ensures does { (o : List Own) → Holds own.old used o → Does (of_answer o name.now start.0 (denote_answer (over_all expr.now (take used own.old) table.now) a)) o own.new result }
+    ensures unchanged { result.ok ≡ false → own.new ≡ own.old }
 {
     match a {
         Answer::Refused(r) => failed(in_line(r, start), used),
@@ -137,8 +140,9 @@ pub fn define<'a>(
     dialect: Dialect,
 ) -> Defined
     requires { (used ≤ 8192) × (used % 128 ≡ 0) × (ordered table.now ≡ true) × (length own.old ≡ 8192) }
-    ensures used_bound { (result.used ≤ 8192) × (length own.new ≡ 8192) × (result.ok ≡ false → own.new ≡ own.old) }
+    ensures used_bound { (result.used ≤ 8192) × (length own.new ≡ 8192) }
     ensures does { (o : List Own) → Holds own.old used o → Does (definition_of o table.now line.now dialect) o own.new result }
+    ensures unchanged { result.ok ≡ false → own.new ≡ own.old }
 {
     let first = runs::run_end(line, Offset(0), Set::Blanks);
     let split = shape::split(line, first);

@@ -70,6 +70,7 @@ fn opening(s: Innermost) -> Plan
 
 // A line with its directive, before its text is looked at. `!elseif` and `!else` are stray outside a group and after its `!else`, `!endif`
 // outside.
+#[tactic(auto, unfolding(crate::specs::Rules::plan))]
 pub fn plan(d: Directive, s: Innermost) -> Plan
     ensures { result ≡ plan_of d s }
 {
@@ -124,6 +125,7 @@ fn branch_mark(taken: bool) -> u8
 }
 
 // A directive that is read, if its condition holds or fails. An `!else` takes its branch exactly if none before it was taken.
+#[tactic(auto, unfolding(crate::specs::Rules::settled))]
 fn settle(d: Directive, f: Flags, holds: bool) -> Transition
     ensures { result ≡ settled d f «holds» }
 {

@@ -79,8 +79,9 @@ pub struct Filled {
 // What `put` does, over a slice, of which parts can be lent.
 fn put_in(own: &mut [u8], used: usize, name: &[u8], kind: u8, len: u8, content: &[u8; 56]) -> Filled
     requires { (length own.old ≡ 8192) × (used ≤ 8192) }
-    ensures used_bound { (result.used ≤ 8192) × (length own.new ≡ 8192) × (result.ok ≡ false → own.new ≡ own.old) }
+    ensures used_bound { (result.used ≤ 8192) × (length own.new ≡ 8192) }
     ensures puts { (x : Own) (o : List Own) → IsSetting x name.now kind len content.now → Holds own.old used o → Puts x o own.new result }
+    ensures unchanged { result.ok ≡ false → own.new ≡ own.old }
 {
     let at = 128 * index_of(&own[..used], name);
     if at == 8192 {
@@ -113,8 +114,9 @@ pub fn put(
     content: &[u8; 56],
 ) -> Filled
     requires { used ≤ 8192 }
-    ensures used_bound { (result.used ≤ 8192) × (length own.new ≡ 8192) × (result.ok ≡ false → own.new ≡ own.old) }
+    ensures used_bound { (result.used ≤ 8192) × (length own.new ≡ 8192) }
     ensures puts { (x : Own) (o : List Own) → IsSetting x name.now kind len content.now → Holds own.old used o → Puts x o own.new result }
+    ensures unchanged { result.ok ≡ false → own.new ≡ own.old }
 {
     put_in(own, used, name, kind, len, content)
 }

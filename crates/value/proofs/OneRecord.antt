@@ -4,17 +4,15 @@ use native.Mathlib.Omega.{arith}
 use mathlib.Core.Path.{◌≡◌}
 use mathlib.Core.Bool.{◌||◌}
 use lib.Dec.{eqb}
-use Rattle.text.specs.Bytes.{pick}
-use Rattle.text.specs.Order.{compared}
 use Rattle.text.proofs.Laws.{pick_case}
-use Rattle.lookup.specs.Setting.{Recorded, setting_under}
+use Rattle.lookup.specs.Setting.{Recorded}
 use Rattle.lookup.specs.declared.Home.TheVariants.{Expression, Table}
 use Rattle.lookup.specs.declared.Value.{Value as CodedValue}
 use Rattle.lookup.specs.declared.Value.TheVariants.{Number, Text, Fault as Faulty}
 use Rattle.lookup.proofs.InFront.{setting_recorded}
-use Rattle.codes.specs.Codes.{STRING, WIDE, MACRO, PCD, BARE, AND}
+use Rattle.codes.specs.Codes.{STRING, WIDE, MACRO, PCD, BARE}
 use Rattle.token.specs.Tokens.{Token}
-use Rattle.arithmetic.specs.Operators.{unary_of, binary_of, compare_numbers}
+use Rattle.arithmetic.specs.Operators.{unary_of, binary_of}
 use Rattle.arithmetic.specs.declared.Outcome.{Outcome}
 use Rattle.arithmetic.specs.declared.Outcome.TheVariants.{Number as Result, Refused}
 use Rattle.value.specs.Places.{Memory}

@@ -111,6 +111,7 @@ fn inner(k: Token, before: usize, around: usize) -> Place
 }
 
 // The attributes of a primary.
+#[tactic(auto, unfolding(crate::specs::Values::primary_value))]
 pub fn of_primary(expr: &[u8], own: &[u8], table: &[u8], k: Token) -> Attributes
     requires { Looked own.now table.now }
     ensures { denote_attributes (over_all expr.now own.now table.now) result ≡ primary_of (over_all expr.now own.now table.now) (denote_token k) }
@@ -149,6 +150,7 @@ fn unless(skip: bool, n: usize) -> usize
     if skip { 0 } else { n }
 }
 
+#[tactic(auto, unfolding(crate::specs::Values::binary_value))]
 pub fn of_binary<'a>(
     expr: &'a [u8],
     own: &'a [u8],
