@@ -16,11 +16,11 @@ File = collections.namedtuple("File", "path text imports definitions names")
 # A function: path in the language (crate::module::name), file, whether it is public and whether C calls it, its contract.
 Function = collections.namedtuple("Function", "name path public exported requires ensures file")
 
-WORD = re.compile(r"[^\s(){};,⌜⌝]+")
+WORD = re.compile(r"[^\s(){};,.]+")
 IMPORT = re.compile(r"^(?:pub |ghost )?use (\S+?)\.\{(.*)\};?$", re.M)
 DECLARED = re.compile(r"\s*(?:unfoldable |abbrev )?(?:pub )?(?:(?:record|data) (\S+)|(\S+) :)")
 HEADER = re.compile(r'^(pub )?(extern "C" )?fn (\w+)(.*?)\n\{', re.M | re.S)
-CLAUSE = re.compile(r"^    (requires|ensures) \{ (?:λ r\. )?⌜ (.*) ⌝ \}$", re.M)
+CLAUSE = re.compile(r"^    (requires|ensures) (?:\w+ )?\{ (.*) \}$", re.M)
 
 
 def paths(pattern):
@@ -29,13 +29,19 @@ def paths(pattern):
 
 def path_of(module):
     """The file of a module of definitions, or None for one of the kit, of a proof or of a type that Rattle declares."""
-    found = re.fullmatch(r"Rattle·(\w+?)(?:·specs)?\.specs\.(\w+)", module)
-    return "crates/%s/specs/%s.antt" % found.groups() if found else None
+    found = re.fullmatch(r"Rattle\.(\w+)\.specs\.(\w+)", module)
+    return "crates/%s/specs/%s.antt" % found.groups() if found and not of_kit(module) else None
+
+
+def of_kit(module):
+    """Whether a module is one of the kit's, and not of a crate of this repository."""
+    found = re.match(r"Rattle\.(\w+)", module)
+    return not (found and os.path.isdir(os.path.join(ROOT, "crates", found[1])))
 
 
 def words_of(text):
-    """The words of a text; of `.field` the field."""
-    return {word.lstrip(".") for word in WORD.findall(text)}
+    """The words of a text; of `x.field` both."""
+    return set(WORD.findall(text))
 
 
 def imports_of(text):
@@ -73,10 +79,10 @@ def load():
 
 
 def used(words, names):
-    """Which of some names the words use; of an operator such as `_then_` the middle is the word."""
+    """Which of some names the words use; of an operator such as `◌then◌` the middle is the word."""
     for name in names:
-        parts = [part for part in name.split("_") if part]
-        if name in words or ("_" in name and parts and all(part in words for part in parts)):
+        parts = [part for part in name.split("◌") if part]
+        if name in words or ("◌" in name and parts and all(part in words for part in parts)):
             yield name
 
 

@@ -11,7 +11,7 @@ import os
 import re
 import sys
 
-from definitions import assuming, functions, load, paths, reach, unread_imports, used, words_of
+from definitions import assuming, functions, load, of_kit, paths, reach, unread_imports, used, words_of
 from sessions import ROOT, read
 
 PROMISES = "docs/PROMISES.md"
@@ -88,21 +88,21 @@ class Types:
         if not os.path.exists(os.path.join(ROOT, path)) or (path, name) in self.lines:
             return
         text = read(path)
-        found = re.search(r"^((?:// .*\n)*)pub (?:enum|struct) %s\b(?:[^{;]*;|[^}]*\n\})" % re.escape(name), text, re.M)
+        found = re.search(r"^((?:// .*\n)*)(?:#\[.*\]\n)*pub (?:enum|struct) %s\b(?:[^{;]*;|[^}]*\n\})" % re.escape(name), text, re.M)
         if not found:
             return
         self.lines[path, name] = found.group().count("\n") + 1
         for other in set(re.findall(r"\b[A-Z]\w*", re.sub(r"//.*", "", found.group()))) - {name}:
             if re.search(r"^pub (?:enum|struct) %s\b" % other, text, re.M):
                 self.add(path, other)
-            for used_path in re.findall(r"^use (\S+)::%s;" % other, text, re.M):
+            for used_path in re.findall(r"^use (\w[\w:]*)::(?:%s|\{[^}]*\b%s\b[^}]*\});" % (other, other), text, re.M):
                 crate, *modules = used_path.split("::")
                 crate = path.split("/")[1] if crate == "crate" else crate
                 self.add("crates/%s/src/%s.rt" % (crate, "/".join(modules) or "lib"), other)
 
     def add_module(self, module):
-        """The type of a module such as Rattle·token.specs.declared.scan.Ending."""
-        found = re.match(r"Rattle·(\w+?)(?:·specs)?\.specs\.declared\.((?:[a-z]\w*\.)*)([A-Z]\w*)", module)
+        """The type of a module such as Rattle.token.specs.declared.scan.Ending."""
+        found = re.match(r"Rattle\.(\w+)\.specs\.declared\.((?:[a-z]\w*\.)*)([A-Z]\w*)", module)
         if found:
             crate, modules, name = found.groups()
             self.add("crates/%s/src/%s.rt" % (crate, modules.strip(".").replace(".", "/") or "lib"), name)
@@ -136,7 +136,7 @@ class Page:
         self.reached = reach(self.files, roots, self.devices)
         uses = [(d.words, self.files[d.path].imports) for d in self.reached.values()] + roots
         modules = {(imports[name][0], imports[name][1]) for words, imports in uses for name in used(words, imports)}
-        self.kit = sorted({name for module, name in modules if not module.startswith("Rattle·")})
+        self.kit = sorted({name for module, name in modules if of_kit(module)})
         self.types = Types()
         for module, _ in sorted(modules):
             self.types.add_module(module)

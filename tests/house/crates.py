@@ -10,7 +10,7 @@ import re
 from sources import ROOT, files, read
 
 LIST, PAGE = "crates.txt", "docs/ARCHITECTURE.md"
-LISTED = re.compile(r"(\w+):([^#]*)(?:# unnamed:(.*))?")
+LISTED = re.compile(r"(\w+)(?: staticlib)?:([^#]*)(?:# unnamed:(.*))?")
 
 
 class Listed:
@@ -46,12 +46,12 @@ def roots(code):
 
 
 def named(crate, crates):
-    """The other crates that a crate's text names: as a path's root in code, as `Rattle·NAME` everywhere."""
+    """The other crates that a crate's text names: as a path's root in code, as `Rattle.NAME` everywhere."""
     found = set()
     for part in "src", "specs", "proofs":
         for file in files(os.path.join("crates", crate, part), ".rt", ".antt"):
             text = read(file)
-            found |= set(re.findall(r"Rattle·(\w+)", text)) | (roots(text) if file.endswith(".rt") else set())
+            found |= set(re.findall(r"Rattle\.(\w+)", text)) | (roots(text) if file.endswith(".rt") else set())
     return found & crates - {crate}
 
 

@@ -48,6 +48,7 @@ fn shared(a: &[u8], b: &[u8], most: usize) -> usize
 }
 
 // The order of a name and the one in a name field. None of the first `filled` bytes of the name is zero.
+#[tactic(auto, using(crate::proofs::Beside::field_over))]
 fn order_of(name: &[u8], filled: usize, field: &[u8]) -> Order
     requires { (filled ≤ span NonZero name.now) × (filled ≤ length field.now) }
     ensures { result ≡ compared name.now (unpadded field.now) }

@@ -6,16 +6,18 @@ use native.Mathlib.Nat.{le-mul_of_pos_right}
 use mathlib.Core.Path.{◌≡◌, refl}
 use mathlib.Core.Bool.{Bool, true, false}
 use mathlib.Core.List.{List, [], ◌∷◌}
-use lib.ListN.{length, get_or, drop, drop_of_length-le}
+use lib.ListN.{length, get_or, take, drop, drop_of_length-le}
 use lib.Seq.{drop-cons}
 use lib.Dec.{ltb, lit<}
-use borrow.Author.Tests.{lt-ltb, le-ltb, ltb-true, ltb-false}
+use borrow.Author.Tests.{eq-eqb, lt-ltb, le-ltb, ltb-true, ltb-false}
 use Rattle.units.specs.Refusals.{LITERAL_LARGE}
 use Rattle.text.specs.Bytes.{pick}
+use Rattle.text.specs.Runs.{span}
+use Rattle.text.specs.declared.runs.Set.TheVariants.{Word}
 use Rattle.codes.specs.Codes.{NUMBER}
 use Rattle.codes.specs.Spellings.{found}
 use Rattle.codes.specs.declared.Scanned.TheVariants.{Refused}
-use Rattle.literal.specs.Literal.{digit_of, value_in, literal}
+use Rattle.literal.specs.Literal.{digit_of, value_in, literal, is_decimal, number_of}
 use Rattle.literal.specs.Sizes.{base_of, bounded}
 use Rattle.literal.specs.declared.Base.{Base}
 use Rattle.literal.specs.declared.Base.TheVariants.{Ten, Sixteen}
@@ -73,3 +75,8 @@ literal_large n v e = rw (le-ltb v (2 ^ 64) (large_sized v e))
 pub base_pos : (b : Base) → 0 < base_of b
 base_pos Ten = lit< tt
 base_pos Sixteen = lit< tt
+
+-- the run `0` by itself
+pub single_zero : (s : List ℕ) → get_or s 0 0 ≡ 48 → span Word s ≡ 1 → number_of (span Word s) s ≡ literal 1 (value_in 10 0 (take 1 s))
+unfolding number_of is_decimal
+single_zero s z e = rw (e, eq-eqb _ _ z)

@@ -1,19 +1,15 @@
 -- The name that a setting's record stands under, and how many settings there are after one is put among them. Assumes nothing.
-use Prim.Native.Nat.{ℕ, zero, suc, ◌+◌, ◌-◌, ◌≤◌}
-use native.Mathlib.Omega.{arith}
+use Prim.Native.Nat.{ℕ, zero, suc, ◌-◌, ◌≤◌}
 use mathlib.Core.Path.{◌≡◌, refl, ap, ◌∙◌}
-use mathlib.Core.Bool.{Bool, true, false, ◌||◌}
-use mathlib.Core.List.{List, [], ◌∷◌, ◌++◌}
+use mathlib.Core.List.{List, ◌++◌}
 use lib.ListN.{length, get_or, replicate}
 use lib.Seq.{take-append_seam}
-use Rattle.text.specs.Bytes.{pick}
-use Rattle.text.specs.Order.{equal}
 use Rattle.text.specs.Runs.{span}
 use Rattle.text.specs.Names.{macro_name}
 use Rattle.text.specs.declared.runs.Set.TheVariants.{NonZero}
 use Rattle.text.proofs.NameRuns.{span_stops, no_zero}
 use Rattle.settings.specs.Table.{unpadded}
-use Rattle.own.specs.Own.{Own, name_in, put, has}
+use Rattle.own.specs.Own.{Own, name_in}
 use Rattle.own.proofs.RecordShape.{padded_room, name_part}
 
 first_of : (k b : ℕ) → get_or (replicate k b) 0 b ≡ b
