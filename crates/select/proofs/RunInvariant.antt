@@ -27,7 +27,7 @@ use Rattle.groups.specs.Groups.{Group, State, Outcome, go, stop}
 use Rattle.groups.specs.Stack.{groups_of, denote_selection, Represents, Meets}
 use Rattle.groups.specs.declared.Selection.{Selection}
 use Rattle.groups.specs.declared.Step.{Step}
-use Rattle.select.specs.Step.{defines, defined, step}
+use Rattle.select.specs.Step.{defines, step}
 use Rattle.select.specs.Select.{Result, accepted, refused, prepend, at_end, after, run, start}
 use Rattle.select.specs.Running.{ends, Runs, MarksPlain, counted_more}
 use Rattle.select.specs.declared.Answer.{Answer}
