@@ -67,14 +67,15 @@ from_list : (us ts : List Token) → tokens_from (token_in (us ++ ts)) (length u
 unfolding tokens_from
 from_list us [] = refl
 from_list us (t ∷ ts) =
-    let here : token_in (us ++ (t ∷ ts)) (length us) ≡ t = get_d_at us t ts in
-    let more : us ++ (t ∷ ts) ≡ (us ++ (t ∷ [])) ++ ts = sym (append_assoc us (t ∷ []) ts) in
-    let long : length us + 1 ≡ length (us ++ (t ∷ [])) = sym (length-append us (t ∷ [])) in
-    let step : tokens_from (token_in (us ++ (t ∷ ts))) (length us + 1) (length ts)
-        ≡ tokens_from (token_in ((us ++ (t ∷ [])) ++ ts)) (length (us ++ (t ∷ []))) (length ts) =
-        ap (λ (l : List Token). tokens_from (token_in l) (length us + 1) (length ts)) more
-        ∙ ap (λ (k : ℕ). tokens_from (token_in ((us ++ (t ∷ [])) ++ ts)) k (length ts)) long in
-    rw here (ap (λ (l : List Token). t ∷ l) (step ∙ from_list (us ++ (t ∷ [])) ts))
+    let all : List Token = us ++ (t ∷ ts) in
+    let past : List Token = us ++ (t ∷ []) in
+    let here : token_in all (length us) ≡ t = get_d_at us t ts in
+    let more : all ≡ past ++ ts = sym (append_assoc us (t ∷ []) ts) in
+    let long : length us + 1 ≡ length past = sym (length-append us (t ∷ [])) in
+    let moved = ap (λ (l : List Token). tokens_from (token_in l) (length us + 1) (length ts)) more in
+    let shifted = ap (λ (k : ℕ). tokens_from (token_in (past ++ ts)) k (length ts)) long in
+    let rest = tokens_from (token_in all) (length us + 1) (length ts) in
+    ap (λ (u : Token). u ∷ rest) here ∙ ap (λ (l : List Token). t ∷ l) (moved ∙ shifted ∙ from_list past ts)
 
 module _ (m : Memory) (δ : Dialect) {cs₀ ss₀ ls₀ vs₀ cs ss ls vs : List ℕ} (room : Room (reading m.expression δ) cs₀ ss₀ ls₀ vs₀)
     (so : Stored (reading m.expression δ) cs₀ ss₀ ls₀ vs₀ cs ss ls vs)

@@ -28,7 +28,7 @@ use Rattle.value.specs.declared.Kind.TheVariants.{Number, String, Wide, Clash}
 use Rattle.soundness.proofs.PlacesWithin.{KindIn, ValueIn, PlacesIn, primary_places, unary_places, binary_places, choice_places}
 use Rattle.expression.specs.Meaning.{code_of, meaning}
 use Rattle.leftmost.specs.Leftmost.{bar_at, pcd_at}
-use Rattle.evaluation.specs.Evaluation.{Evaluation, value, refused, offset_of, answer_value, clash_in, refused_or, check_then_answer}
+use Rattle.evaluation.specs.Evaluation.{Evaluation, refused, offset_of, answer_value, clash_in, refused_or, check_then_answer}
 use Rattle.evaluation.specs.Evaluation.{token_in, start_in, answer_tokens, of_tokens, ended, evaluation_in}
 use Rattle.evaluation.proofs.FromTree.{tokens_read}
 

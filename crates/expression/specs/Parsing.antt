@@ -1,5 +1,5 @@
 -- The expression that the tokens in the scanner's arrays derive. Contracts between layers cite this; no promise about an expression does.
-use Rattle.std.specs.Prelude.{ℕ, ◌≤◌, ◌≡◌, List, length, get_or, ltb}
+use Rattle.std.specs.Prelude.{ℕ, ◌≤◌, List, length, get_or, ltb}
 use Rattle.text.specs.Bytes.{pick}
 use Rattle.lookup.specs.Setting.{Looked}
 use Rattle.token.specs.Tokens.{Token}

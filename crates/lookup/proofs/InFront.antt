@@ -1,21 +1,20 @@
 -- The setting under a name where whole records stand in front of a table: the first of them with this name, else the table's, whose place
 -- is behind them. Assumes nothing.
-use Prim.Native.Nat.{ℕ, zero, suc, ◌+◌, ◌-◌, ◌*◌, ◌/◌, ◌%◌, ◌≤◌, ◌<◌}
+use Prim.Native.Nat.{ℕ, suc, ◌+◌, ◌-◌, ◌*◌, ◌/◌, ◌%◌, ◌≤◌, ◌<◌}
 use native.Mathlib.Omega.{arith}
 use native.Mathlib.Nat.{zero-add}
-use mathlib.Core.Path.{◌≡◌, refl, sym, ap, ◌∙◌}
+use mathlib.Core.Path.{◌≡◌, refl, ap, ◌∙◌}
 use mathlib.Core.Bool.{Bool, true, false}
 use mathlib.Core.List.{List, [], ◌∷◌, ◌++◌}
 use lib.ListN.{length, get_or, take, drop}
 use lib.Dec.{eqb}
-use Rattle.text.specs.Bytes.{pick}
 use Rattle.text.specs.Order.{equal}
 use Rattle.text.proofs.Laws.{part_from, pick_case, pick_both}
-use Rattle.settings.specs.Table.{records_in, records, name_of, kind_byte, length_byte}
+use Rattle.settings.specs.Table.{records, name_of, kind_byte, length_byte}
 use Rattle.settings.proofs.InFront.{records_in_front}
 use Rattle.halving.proofs.RecordsAt.{records_length, record_at}
 use Rattle.own.specs.Index.{index_among}
-use Rattle.lookup.specs.Setting.{set_to, not_set, clipped, value_at, setting_under_at, setting_under, start_of, moved, behind, Within, Recorded}
+use Rattle.lookup.specs.Setting.{set_to, value_at, setting_under_at, setting_under, start_of, moved, behind, Within, Recorded}
 use Rattle.lookup.specs.declared.Value.{Value}
 use Rattle.lookup.specs.declared.Value.TheVariants.{Number, Text, Fault}
 use Rattle.lookup.specs.declared.Setting.{Setting}

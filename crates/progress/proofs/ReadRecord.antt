@@ -2,15 +2,14 @@
 -- line is the line's. Assumes nothing.
 use Prim.Native.Nat.{ℕ, ◌+◌, ◌-◌, ◌*◌, ◌/◌, ◌%◌, ◌≤◌}
 use native.Mathlib.Omega.{arith}
-use mathlib.Core.Path.{◌≡◌, refl, sym, ap, ◌∙◌}
-use mathlib.Core.Bool.{Bool, true, false, ◌&&◌, false≢true}
+use mathlib.Core.Path.{◌≡◌, refl, ap, ◌∙◌}
+use mathlib.Core.Bool.{Bool, true, ◌&&◌}
 use mathlib.Core.List.{List, [], ◌∷◌, ◌++◌, map}
-use lib.ListN.{length, get_or, take, drop, replicate, length-drop, take-append-drop}
+use lib.ListN.{length, take, drop, replicate, length-drop, take-append-drop}
 use lib.Seq.{length-take-le, take_all, take_at, drop-cons, drop-drop}
 use lib.Dec.{eqb, leb}
 use borrow.Author.Tests.{eqb-true}
 use Rattle.text.specs.Runs.{span}
-use Rattle.text.specs.Names.{macro_name}
 use Rattle.text.specs.declared.runs.Set.TheVariants.{NonZero}
 use Rattle.text.proofs.Laws.{and_left, and_right, span_fits}
 use Rattle.settings.specs.Table.{records_in, records, name_field, unpadded, name_of, kind_byte, length_byte, zeros, is_name, well_formed_name, ordered_names, ordered}
@@ -18,9 +17,8 @@ use Rattle.settings.specs.Table.{plain_kind, plain_record, plain_records, plain,
 use Rattle.settings.proofs.TableRecords.{roomy}
 use Rattle.own.specs.Own.{Own, padded, record_of, name_in}
 use Rattle.own.proofs.Records.{record_length}
-use Rattle.own.proofs.FieldNames.{unpadded_length}
 use Rattle.own.proofs.RecordShape.{padded_room, kind_part, length_part, content_part}
-use Rattle.progress.specs.Reading.{is_setting, own_of}
+use Rattle.progress.specs.Reading.{own_of}
 
 zeros_all : (s : List ℕ) → zeros s ≡ true → s ≡ replicate (length s) 0
 unfolding zeros

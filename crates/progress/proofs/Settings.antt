@@ -3,17 +3,17 @@
 use Prim.Native.Nat.{ℕ, zero, suc, ◌+◌, ◌*◌, ◌/◌, ◌%◌, ◌≤◌}
 use native.Mathlib.Omega.{arith}
 use mathlib.Core.Path.{◌≡◌, refl, sym, ap, ◌∙◌}
-use mathlib.Core.Bool.{Bool, true, false, ◌&&◌}
-use mathlib.Core.List.{List, [], ◌∷◌, ◌++◌, map}
-use lib.ListN.{length, take, drop, length-take, length-drop, length-map}
-use lib.Seq.{length-take-le, take-add, take-take, take_all}
+use mathlib.Core.Bool.{Bool, true, false}
+use mathlib.Core.List.{List, [], ◌∷◌, map}
+use lib.ListN.{length, take, drop, length-drop, length-map}
+use lib.Seq.{length-take-le, take-add, take_all}
 use lib.Dec.{eqb, leb}
 use borrow.Author.Tests.{eq-eqb, eqb-true, le-leb, leb-true}
 use Rattle.units.specs.declared.Dialect.{Dialect}
 use Rattle.text.specs.Bytes.{pick}
 use Rattle.text.specs.Order.{equal}
 use Rattle.text.proofs.Laws.{and_left, and_right}
-use Rattle.settings.specs.Table.{records_in, records, name_of, well_formed}
+use Rattle.settings.specs.Table.{records_in, records, well_formed}
 use Rattle.own.specs.Own.{Own, record_of, name_in, records_of, put}
 use Rattle.own.specs.Putting.{Holds}
 use Rattle.own.proofs.Records.{own_records}
