@@ -1,2 +1,3 @@
 pub mod Pieces
 pub mod LineCases
+pub mod Feeds

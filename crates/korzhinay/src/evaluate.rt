@@ -4,8 +4,7 @@ ghost use Rattle.marshal.specs.Calls.{dialect_of, Answers};
 // The value of an expression over a table: 0 and the value in `out`; or the refusal number, and `out` is all zeros except for the offset of
 // the refusal, its last entry.
 // Bit 0 of `dialect` is the edition, 1 for the old one.
-#[unsafe(no_mangle)]
-pub extern "C" fn korzhinay_evaluate<'a>(
+pub fn korzhinay_evaluate<'a>(
     expr: &'a [u8],
     table: &'a [u8],
     dialect: u8,

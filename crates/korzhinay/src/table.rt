@@ -5,8 +5,7 @@ ghost use Rattle.text.specs.Bytes.{pick};
 ghost use Rattle.settings.specs.Table.{well_formed};
 
 // 0 if the table is well formed, else 1.
-#[unsafe(no_mangle)]
-pub extern "C" fn korzhinay_table(table: &[u8]) -> u8
+pub fn korzhinay_table(table: &[u8]) -> u8
     ensures { result ≡ pick (well_formed table.now) 0 TABLE_MALFORMED }
 {
     marshal::tables::check(table)

@@ -5,8 +5,7 @@ ghost use Rattle.marshal.specs.Calls.{dialect_of, Lists};
 // The tokens of an expression: the refusal number or 0, the number of tokens that were read, the offset of the refusal or 0, and the codes,
 // starts, lengths and values of the tokens.
 // Bit 0 of `dialect` is the edition, 1 for the old one.
-#[unsafe(no_mangle)]
-pub extern "C" fn korzhinay_tokens(
+pub fn korzhinay_tokens(
     expr: &[u8],
     dialect: u8,
     out: &mut [u64; 3],

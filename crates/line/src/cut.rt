@@ -18,6 +18,7 @@ pub struct Cut {
 
 // The end of the line that starts at `from` and has its LF, or else the end of the file, at `lf`. A CR of this line directly before the LF
 // is dropped; a CR at the end of the file is kept.
+#[tactic(auto, using(crate::proofs::FirstLine::end_no_cr))]
 fn line_end(file: &[u8], from: Offset, lf: Offset) -> Offset
     requires { lf.0 ≤ length file.now }
     ensures { result.0 ≡ line_end file.now from.0 lf.0 }

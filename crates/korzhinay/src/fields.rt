@@ -4,8 +4,7 @@ ghost use Rattle.marshal.specs.Calls.{dialect_of, Fills};
 // The bytes of a data field: 0, the length of the field in `out`, and the field at the front of `buffer`; or the refusal number, its offset in
 // `out`, and `buffer` as it was.
 // Bit 0 of `dialect` is the edition, 1 for the old one.
-#[unsafe(no_mangle)]
-pub extern "C" fn korzhinay_field<'a>(
+pub fn korzhinay_field<'a>(
     buffer: &mut [u8],
     expr: &'a [u8],
     table: &'a [u8],
