@@ -5,7 +5,7 @@
  * neither read nor written and may be null. Lent arrays are written as each call says, and nowhere else; they must not overlap each other
  * or what the same call reads. The library keeps no state, so calls may run at the same time.
  *
- * Refusals have numbers, those of enum korzhinay_refusal; korzhinay_meaning, at the end, has their meanings. docs/LANGUAGE.md
+ * Refusals have numbers from 1 to 28, of enum korzhinay_refusal; korzhinay_meaning, at the end, has their meanings. docs/LANGUAGE.md
  * describes the language, with an example of each refusal.
  *
  * Refusals 3 to 12 have a place, given as the offset of a byte from the start of the expression, in a selection from the start of the line:
@@ -40,11 +40,11 @@ extern "C" {
 #endif
 
 /* The version of this header, and of the library and the command that come with it. The shared library's name ends with the major number
- * and, while that is 0, with the minor one too, as libkorzhinay.so.0.4: a program finds only a library with the calls it was made for. */
+ * and, while that is 0, with the minor one too, as libkorzhinay.so.0.3: a program finds only a library with the calls it was made for. */
 #define KORZHINAY_VERSION_MAJOR 0
-#define KORZHINAY_VERSION_MINOR 4
+#define KORZHINAY_VERSION_MINOR 3
 #define KORZHINAY_VERSION_PATCH 0
-#define KORZHINAY_VERSION "0.4.0"
+#define KORZHINAY_VERSION "0.3.0"
 
 /* The limits. The refusal of what is past a limit is beside it. */
 #define KORZHINAY_RECORD_BYTES 128          /* of each record of a table, no more and no less: 1 */
@@ -60,7 +60,6 @@ extern "C" {
 #define KORZHINAY_MAX_LINE_BYTES 1024       /* of a line without its end: 17 */
 #define KORZHINAY_MAX_GROUPS 16             /* that are open at the same time: 20 */
 #define KORZHINAY_MAX_DEFINED 64            /* macros that the DEFINE lines of a file set: 27 */
-#define KORZHINAY_MAX_SETTINGS_BYTES 8192   /* of their records, in a running selection */
 
 /* No call needs more than this many bytes of stack, whatever its input. They have to be free where the call is made: what a thread takes of
  * its stack for itself, and signal handlers, come on top. This is measured and not proved, since it depends on the frames that the compiler
@@ -97,8 +96,7 @@ enum korzhinay_refusal {
     KORZHINAY_REFUSAL_DATUM_RANGE = 25,
     KORZHINAY_REFUSAL_BUFFER_SHORT = 26,
     KORZHINAY_REFUSAL_DEFINED_MANY = 27,
-    KORZHINAY_REFUSAL_DEFINED_LONG = 28,
-    KORZHINAY_REFUSAL_PIECE_MALFORMED = 35
+    KORZHINAY_REFUSAL_DEFINED_LONG = 28
 };
 
 /* The editions of the language, as the dialect of a call. */
@@ -294,68 +292,8 @@ enum korzhinay_mark {
     KORZHINAY_MARK_TAKEN = 4,     /* a directive that was read; the branch after it is taken */
     KORZHINAY_MARK_END = 5,       /* an !endif that was read */
     KORZHINAY_MARK_DEFINE = 6,    /* a plain line that is kept and sets a macro */
-    KORZHINAY_MARK_REFUSED = 255  /* every byte of marks after a refusal; of a line that is refused when it is fed */
+    KORZHINAY_MARK_REFUSED = 255  /* every byte of marks after a refusal */
 };
-
-/* A running selection, which each line changes in place: for an editor that hands over a file line by line. It has two parts, the numbers
- * and the settings that DEFINE lines made. All zeros is a fresh one, as `struct korzhinay_following f = {0};` makes it. A copy of it is a
- * running selection too, at the same line.
- *
- * A caller has nothing to do with the fields; they are named so that it can hold, keep and compare them. Any bytes are a running
- * selection, and no call reads or writes outside: a number that is too large is read as the largest that is named here, and settings that
- * no DEFINE line can make are read as no settings. */
-struct korzhinay_running {
-    uint64_t groups;     /* how many groups are open; at most 16 */
-    uint64_t count;      /* how many operators were applied; at most 199 for each line that was fed */
-    uint64_t flags;      /* of the open groups, four bits each, those of the innermost one lowest: 1 the branch around the group is taken,
-                          * 2 one of its branches before this one was taken, 4 this one is taken, 8 this one is its !else; higher bits
-                          * have no meaning */
-    uint16_t opened[16]; /* the lines of their !if, !ifdef or !ifndef, the outermost first; those from `groups` on have no meaning */
-    uint64_t bytes;      /* how many bytes were fed; at most 65,536 */
-    uint64_t lines;      /* how many lines were fed; at most 4,096 */
-    uint64_t ended;      /* 0, or anything else if the last line had no LF */
-    uint64_t used;       /* how many bytes of the settings are used: 128 times the number of macros that DEFINE lines set */
-};
-
-struct korzhinay_following {
-    struct korzhinay_running running;
-    /* The records of the macros that DEFINE lines set, as a table has them, in the order in which they were first set; each has a macro's
-     * name. If `used` is above 8,192, or no multiple of 128, or one of the records is not so, there are no settings. Bytes from `used` on
-     * have no meaning. */
-    uint8_t settings[KORZHINAY_MAX_SETTINGS_BYTES];
-};
-
-/* Feeds one line to a running selection, f.running and f.settings: 0 and the line's mark, or the refusal number. A line that is refused
- * leaves every byte of both as it was: it may be fed again, changed, and has the same number then.
- * The piece is one line with its LF. Only the last line of a file may lack it, and then the piece has at least one byte.
- *   out[0]  the line of the refusal, counted from 1; 0 without one, and for 1 and 35, which have no line
- *   out[1]  the line's mark, one of enum korzhinay_mark; KORZHINAY_MARK_REFUSED with a refusal
- *   out[2]  how many operators were applied so far, this line included; 0 with a refusal
- *   out[3]  the offset of the refusal, counted from the first byte of the line; 0 without one, and where korzhinay_select has 0
- *   out[4]  how many groups are open after the line; 0 with a refusal
- * The table and the dialect are those of korzhinay_select. They come with every line, and should be the same for all of them: each line is
- * judged by those that come with it. What DEFINE lines set is in the selection.
- * A file that is fed line by line to a fresh selection gives the marks that korzhinay_select gives, up to the line that this one refuses,
- * with the same number, line and offset. But the limits of a file are those of the lines so far, and there are no marks that could be too
- * few (16). Refusals, of which the first that applies is given:
- *    1  the table is malformed
- *   35  the piece is empty, or has an LF before its last byte, or a line without LF was fed before it
- *   14  with this line the file is longer than 65,536 bytes; it has a line here, as 15 has
- *   15  with this line the file has more than 4,096 lines
- * then those of a line, as in korzhinay_select: 17 to 20, 22, 2 to 13, 27 and 28. */
-uint8_t korzhinay_feed(struct korzhinay_running *running, uint8_t settings[KORZHINAY_MAX_SETTINGS_BYTES], const uint8_t *table,
-                       size_t table_len, const uint8_t *piece, size_t piece_len, uint8_t dialect, uint64_t out[5]);
-
-/* What the file would give if it ended here: 0, or the refusal number. The selection stays as it was, so more lines may follow, and the
- * ending may be asked again.
- *   out[0]  the line of the refusal; 0 without one, and for 1
- *   out[1]  how many lines the file has; 0 with a refusal
- *   out[2]  how many operators were applied; 0 with a refusal
- *   out[3]  0, the offset of the refusal
- * Refusals:
- *    1  the table is malformed
- *   21  an !if, !ifdef or !ifndef is still open; the line is that of the innermost one */
-uint8_t korzhinay_ending(const struct korzhinay_running *running, const uint8_t *table, size_t table_len, uint64_t out[4]);
 
 /* What a refusal number means, for messages. */
 static inline const char *korzhinay_meaning(uint8_t number)
@@ -390,7 +328,6 @@ static inline const char *korzhinay_meaning(uint8_t number)
     case KORZHINAY_REFUSAL_BUFFER_SHORT: return "the buffer is shorter than the field";
     case KORZHINAY_REFUSAL_DEFINED_MANY: return "DEFINE lines set more than 64 macros";
     case KORZHINAY_REFUSAL_DEFINED_LONG: return "DEFINE sets a string of more than 56 bytes";
-    case KORZHINAY_REFUSAL_PIECE_MALFORMED: return "the piece is not one line, or follows a line without LF";
     default: return "unknown refusal";
     }
 }

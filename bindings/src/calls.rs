@@ -2,7 +2,6 @@
 //! borrowed to be written overlaps nothing else: that is all that the C functions need, the stack apart, whose end Rust guards. A dialect
 //! is one of [`crate::edition`].
 
-use crate::following::Following;
 use crate::limit::MAX_TOKENS;
 use crate::raw;
 
@@ -115,48 +114,6 @@ pub fn select(marks: &mut [u8], file: &[u8], table: &[u8], dialect: u8, out: &mu
             table.as_ptr(),
             table.len(),
             dialect,
-            out.as_mut_ptr(),
-        )
-    }
-}
-
-/// Feeds a line to a running selection: 0 or the refusal number, and the refusal's line, the line's mark, the count of operators so far,
-/// the refusal's offset in its line and how many groups are open.
-#[inline]
-pub fn feed(
-    following: &mut Following,
-    table: &[u8],
-    piece: &[u8],
-    dialect: u8,
-    out: &mut [u64; 5],
-) -> u8 {
-    // SAFETY: the call reads two slices by their lengths, and writes within the two parts of one running selection and the 5 numbers of
-    // `out`, which are borrowed alone.
-    unsafe {
-        raw::korzhinay_feed(
-            &mut following.running,
-            following.settings.as_mut_ptr(),
-            table.as_ptr(),
-            table.len(),
-            piece.as_ptr(),
-            piece.len(),
-            dialect,
-            out.as_mut_ptr(),
-        )
-    }
-}
-
-/// What the file that was fed would give if it ended here: 0 or the refusal number, and the refusal's line, the number of lines, the count
-/// of operators and 0.
-#[inline]
-pub fn ending(following: &Following, table: &[u8], out: &mut [u64; 4]) -> u8 {
-    // SAFETY: the call reads the numbers of one running selection and a slice by its length, and writes the 4 numbers of `out`, which is
-    // borrowed alone.
-    unsafe {
-        raw::korzhinay_ending(
-            &following.running,
-            table.as_ptr(),
-            table.len(),
             out.as_mut_ptr(),
         )
     }

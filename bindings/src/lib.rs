@@ -7,7 +7,6 @@
 mod calls;
 pub mod datum;
 pub mod edition;
-pub mod following;
 pub mod kind;
 pub mod limit;
 pub mod mark;
@@ -16,4 +15,4 @@ pub mod raw;
 pub mod refusal;
 pub mod token;
 
-pub use calls::{ending, evaluate, feed, field, lookup, select, table, tokens};
+pub use calls::{evaluate, field, lookup, select, table, tokens};

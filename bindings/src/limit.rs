@@ -34,8 +34,5 @@ pub const MAX_GROUPS: usize = 16;
 /// The most macros that the `DEFINE` lines of a file set.
 pub const MAX_DEFINED: usize = 64;
 
-/// The bytes of their records, in a running selection.
-pub const MAX_SETTINGS_BYTES: usize = 8_192;
-
 /// The bytes of stack that have to be left where a call is made.
 pub const STACK: usize = 45_056;

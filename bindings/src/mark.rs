@@ -14,5 +14,5 @@ pub const TAKEN: u8 = 4;
 pub const END: u8 = 5;
 /// A plain line that is kept and sets a macro.
 pub const DEFINE: u8 = 6;
-/// Every byte of the marks after a refusal; of a line that is refused when it is fed.
+/// Every byte of the marks after a refusal.
 pub const REFUSED: u8 = 255;

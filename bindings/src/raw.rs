@@ -11,8 +11,6 @@
 //!
 //! No function keeps a pointer or a state, so calls may run at the same time.
 
-use crate::following::Running;
-
 extern "C" {
     /// The table has `table_len` bytes.
     pub fn korzhinay_table(table: *const u8, table_len: usize) -> u8;
@@ -70,27 +68,6 @@ extern "C" {
         table: *const u8,
         table_len: usize,
         dialect: u8,
-        out: *mut u64,
-    ) -> u8;
-
-    /// The numbers of one running selection, and the 8,192 bytes of its settings; the table has `table_len` bytes, the piece
-    /// `piece_len`; `out` has 5 numbers.
-    pub fn korzhinay_feed(
-        running: *mut Running,
-        settings: *mut u8,
-        table: *const u8,
-        table_len: usize,
-        piece: *const u8,
-        piece_len: usize,
-        dialect: u8,
-        out: *mut u64,
-    ) -> u8;
-
-    /// The numbers of one running selection; the table has `table_len` bytes; `out` has 4 numbers.
-    pub fn korzhinay_ending(
-        running: *const Running,
-        table: *const u8,
-        table_len: usize,
         out: *mut u64,
     ) -> u8;
 }

@@ -28,4 +28,3 @@ pub const DATUM_RANGE: u8 = 25;
 pub const BUFFER_SHORT: u8 = 26;
 pub const DEFINED_MANY: u8 = 27;
 pub const DEFINED_LONG: u8 = 28;
-pub const PIECE_MALFORMED: u8 = 35;

@@ -20,7 +20,7 @@ from .text import Text
 from .token import Token
 from .value import Value
 
-__version__ = "0.4.0"
+__version__ = "0.3.0"
 
 __all__ = [
     "MEANINGS",

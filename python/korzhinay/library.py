@@ -12,7 +12,7 @@ VARIABLE: Final = "KORZHINAY_LIBRARY"
 """The environment variable that may name the library."""
 
 BUILT: Final = Path("target", "libkorzhinay.so")
-INSTALLED: Final = "libkorzhinay.so.0.4"
+INSTALLED: Final = "libkorzhinay.so.0.3"
 """The name that an installed library has for this version of the calls. One of another name may take other arguments, or give
 other answers."""
 

@@ -94,7 +94,8 @@ module _ (old : Bool) (m : Memory) (end : Offset) (complete : (reading m.express
   read = (reading m.expression (by_itself old)).tokens
 
   module _ (s : Tree Token) (d : Derives code_of expression read s) where
-    answered : (ks : List Token) → bare_bars code_of d ≡ ks → evaluation_in m (by_itself old) ≡ check_then_answer (first_place ks) (pcd_at m read) (fold (meaning m) s)
+    answered : (ks : List Token) → bare_bars code_of d ≡ ks → evaluation_in m (by_itself old)
+        ≡ check_then_answer (first_place ks) (pcd_at m read) (fold (meaning m) s)
     answered ks e = rw (← e) (derived m (by_itself old) end complete s d)
 
     pub eight_at : (k : Token) (ks : List Token) → bare_bars code_of d ≡ k ∷ ks → evaluation_in m (by_itself old) ≡ refused_at BAR_OUTSIDE k.start

@@ -88,7 +88,8 @@ module _ {K A B : Type 0} {alg : Algebra K A} {skips : K → A → Bool} {takes_
   own_place n e = ap (λ p. (what (fold alg n), p)) e
 
   -- the chosen arm
-  follows_arm : (q : K) (c a b : Tree K) → Sort (Choice q c a b) → Passes alg skips takes_first fails what place at c → (f : Bool) → takes_first (fold alg c) ≡ f
+  follows_arm : (q : K) (c a b : Tree K) → Sort (Choice q c a b) → Passes alg skips takes_first fails what place at c → (f : Bool) → takes_first (fold alg c)
+      ≡ f
       → Follows alg skips takes_first fails what place at (pick f a b) (Choice q c a b)
   follows_arm q c a b g h true e = carries.choice_first q c a b g h e
   follows_arm q c a b g h false e = carries.choice_second q c a b g h e

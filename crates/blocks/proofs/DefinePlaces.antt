@@ -19,7 +19,8 @@ use Rattle.value.specs.Places.{Memory, over}
 use Rattle.value.specs.Values.{number, text, fault}
 use Rattle.evaluation.specs.Evaluation.{Evaluation, value, refused, evaluation_in}
 use Rattle.evaluation.proofs.OffsetWithin.{offset_within}
-use Rattle.define.specs.Define.{after_word, name_length, equals_at, MAX_NAME, MAX_CONTENT, shaped, macro_of, expression_start, expression_of, Definition, sets, fails}
+use Rattle.define.specs.Define.{after_word, name_length, equals_at, MAX_NAME, MAX_CONTENT, shaped}
+use Rattle.define.specs.Define.{macro_of, expression_start, expression_of, Definition, sets, fails}
 use Rattle.define.specs.Define.{of_number, of_text, limited, of_answer, definition_of}
 use Rattle.groups.specs.Groups.{State}
 use Rattle.select.specs.Step.{defines}

@@ -48,7 +48,8 @@ module _ (d : Directive) (o : opens d ≡ true) (n k : ℕ) (own : List Own) (gs
       read c b j = rw (opens_settled d o (innermost gs).flags b) tt
 
       by : (a : Bool) → leb MAX_GROUPS (length gs) ≡ a → (b : Bool) (c : Condition)
-          → Fuller c gs (planned (pick a (Unread (Refuse (unplaced 20))) (pick b Read (Unread (Push UNREAD (first_branch false false))))) d c n (state gs k own))
+          → Fuller c gs (planned (pick a (Unread (Refuse (unplaced 20))) (pick b Read (Unread (Push UNREAD (first_branch false false))))) d c n
+          (state gs k own))
       by true e b c = λ w z. leb-true MAX_GROUPS (length gs) e
       by false e true (Holds j) = read (Holds j) true j
       by false e true (Fails j) = read (Fails j) false j

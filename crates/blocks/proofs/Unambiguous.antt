@@ -63,7 +63,8 @@ mutual
   same_blocks (group l body os a) v empty w p q s r e = stopped _ q l _ r (sym e) (λ h. omega (arith, place_opens (directive_of l) v.0))
   same_blocks (group l body os a) v (line m b) w p q s r e = clash _ l m (cc) (λ h. omega (arith, ap place w.0, place_opens (directive_of l) v.0))
   same_blocks (group l body os a) v (group m body' os' b) w p q s r e =
-      let z : l ∷ (lines_of body ++ (lines_in os ++ (lines_of a ++ p))) ≡ m ∷ (lines_of body' ++ (lines_in os' ++ (lines_of b ++ q))) = simp append_assoc at e in
+      let z : l ∷ (lines_of body ++ (lines_in os ++ (lines_of a ++ p)))
+      ≡ m ∷ (lines_of body' ++ (lines_in os' ++ (lines_of b ++ q))) = simp append_assoc at e in
       let i =
       same_blocks body v.1 body' w.1 (lines_in os ++ (lines_of a ++ p)) (lines_in os' ++ (lines_of b ++ q)) (stops_in os v.2 _)
       (stops_in os' w.2 _) (cc) in

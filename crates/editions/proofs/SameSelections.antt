@@ -90,7 +90,8 @@ module _ (t : List ℕ) (δ : Dialect) where
   same_run n s [] h = refl
   same_run n s (l ∷ ls) h =
       let w = same_step n s l (fine_step n (step t n s l (in_new δ)) (λ s'. run t (n + 1) s' ls (in_new δ)) h) in
-      rw w (same_after n (step t n s l (in_new δ)) (λ s'. run t (n + 1) s' ls (in_old δ)) (λ s'. run t (n + 1) s' ls (in_new δ)) (λ s'. same_run (n + 1) s' ls) h)
+      rw w (same_after n (step t n s l (in_new δ)) (λ s'. run t (n + 1) s' ls (in_old δ)) (λ s'. run t (n + 1) s' ls (in_new δ))
+      (λ s'. same_run (n + 1) s' ls) h)
 
   -- THE THEOREM
   pub same_selection : (f : List ℕ) (room : ℕ) → SameResult (selection f t room (in_old δ)) (selection f t room (in_new δ))

@@ -10,6 +10,9 @@ use progress::Running;
 use select::{Answer, run};
 use units::{Dialect, Fault, LineNumber, Offset, Refusal};
 
+// A piece of a file that is followed is empty, has an LF before its last byte, or comes after a line without LF.
+const PIECE_MALFORMED: u8 = 35;
+
 // The largest number of bytes and of lines in a file.
 const MAX_FILE: usize = 65536;
 
@@ -47,15 +50,15 @@ pub fn feed<'a>(
     }
     let len = piece.len();
     if len == 0 {
-        return refused(x, units::unplaced(units::PIECE_MALFORMED), LineNumber(0));
+        return refused(x, units::unplaced(PIECE_MALFORMED), LineNumber(0));
     }
     let c = cut::next(piece, Offset(0));
     let after = c.after;
     if after.0 < len {
-        return refused(x, units::unplaced(units::PIECE_MALFORMED), LineNumber(0));
+        return refused(x, units::unplaced(PIECE_MALFORMED), LineNumber(0));
     }
     if x.ended != 0 {
-        return refused(x, units::unplaced(units::PIECE_MALFORMED), LineNumber(0));
+        return refused(x, units::unplaced(PIECE_MALFORMED), LineNumber(0));
     }
     let y = progress::read(x);
     let bytes = y.bytes;

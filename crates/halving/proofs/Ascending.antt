@@ -90,8 +90,12 @@ module _ (r q : List ℕ) (rs : List (List ℕ)) (w : Whole (r ∷ q ∷ rs)) (h
   parts : (well_formed_name (name_field r) ≡ true) × (less (name_field r) (name_field q) ≡ true) × (ordered_names (map name_field (q ∷ rs)) ≡ true)
   unfolding ordered_names
   parts =
-      let rest = and_right (well_formed_name (name_field r)) _ h in
-      (and_left (well_formed_name (name_field r)) _ h, and_left (less (name_field r) (name_field q)) _ rest, and_right (less (name_field r) (name_field q)) _ rest)
+      let rest = and_right (well_formed_name (name_field r)) _ h in (
+        and_left (well_formed_name (name_field r)) _ h,
+        and_left (less (name_field r) (name_field q)) _ rest,
+        and_right (less (name_field r) (name_field q)) _
+            rest,
+      )
 
   second_greater : compared (name_of r) (name_of q) ≡ Less
   second_greater =

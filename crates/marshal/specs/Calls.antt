@@ -18,7 +18,8 @@ use Rattle.token.specs.Tokens.{Reading, ending_number, Stored}
 use Rattle.token.specs.declared.scan.Ending.{Ending}
 use Rattle.token.specs.declared.scan.Ending.TheVariants.{Complete, Refused}
 use Rattle.evaluation.specs.Evaluation.{Evaluation, refusal_number, offset_of as refusal_offset, kind_number_of, number_of, count_of, place_of, evaluation}
-use Rattle.select.specs.Select.{selection, answer_of, refusal_number as selection_number, line_of, offset_of, number_of_lines, count_of as selection_count, marks_of}
+use Rattle.select.specs.Select.{selection, answer_of, refusal_number as selection_number, line_of}
+use Rattle.select.specs.Select.{offset_of, number_of_lines, count_of as selection_count, marks_of}
 use Rattle.select.specs.declared.Answer.{Answer}
 use Rattle.datum.specs.declared.Written.{Written}
 use Rattle.datum.specs.declared.Written.TheVariants.{Length, Refused as Unwritten}

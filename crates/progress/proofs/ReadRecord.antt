@@ -12,7 +12,8 @@ use borrow.Author.Tests.{eqb-true}
 use Rattle.text.specs.Runs.{span}
 use Rattle.text.specs.declared.runs.Set.TheVariants.{NonZero}
 use Rattle.text.proofs.Laws.{and_left, and_right, span_fits}
-use Rattle.settings.specs.Table.{records_in, records, name_field, unpadded, name_of, kind_byte, length_byte, zeros, is_name, well_formed_name, ordered_names, ordered}
+use Rattle.settings.specs.Table.{records_in, records, name_field, unpadded, name_of, kind_byte}
+use Rattle.settings.specs.Table.{length_byte, zeros, is_name, well_formed_name, ordered_names, ordered}
 use Rattle.settings.specs.Table.{plain_kind, plain_record, plain_records, plain, well_formed}
 use Rattle.settings.proofs.TableRecords.{roomy}
 use Rattle.own.specs.Own.{Own, padded, record_of, name_in}
@@ -91,7 +92,8 @@ module _ (r : List ℕ) (long : length r ≡ 128) (e : well_formed r ≡ true) w
   pub record_again : record_of (own_of r) ≡ r
   unfolding record_of
   record_again =
-      let size : length (take (length_byte r) (drop 72 r)) ≡ length_byte r = length-take-le (length_byte r) (drop 72 r) (omega (arith, content_long, content_fits)) in
+      let size : length (take (length_byte r) (drop 72 r))
+      ≡ length_byte r = length-take-le (length_byte r) (drop 72 r) (omega (arith, content_long, content_fits)) in
       rw (name_again, content_again, marks_again _ size) (take-append-drop 64 r)
 
 -- the setting of a record

@@ -44,7 +44,8 @@ found_anywhere [] n at at' = refl
 found_anywhere (r ∷ rs) n at at' = by (equal (name_of r) n) (found_anywhere rs n (at + 128) (at' + 128))
   where
     by : (e : Bool) → (setting_under_at (at + 128) rs n).found ≡ (setting_under_at (at' + 128) rs n).found
-        → (pick e (set_to (value_at at r)) (setting_under_at (at + 128) rs n)).found ≡ (pick e (set_to (value_at at' r)) (setting_under_at (at' + 128) rs n)).found
+        → (pick e (set_to (value_at at r)) (setting_under_at (at + 128) rs n)).found
+        ≡ (pick e (set_to (value_at at' r)) (setting_under_at (at' + 128) rs n)).found
     by true ih = refl
     by false ih = ih
 

@@ -60,7 +60,8 @@ module _ (t : List ℕ) (δ : Dialect) (n : ℕ) (s : State) (l : List ℕ) (m :
           let c : Condition = said t δ n s l in
           let r : Transition = conclude (directive_of l) (innermost s.groups) c in
           let o : applied r n (count_of c) s ≡ go m s' = sym (planned_step t δ n s l Read short f q) ∙ e in
-          let h : Shows Low (s.count + count_of c) (go m s') = rw o at (applied_shows Low r n (count_of c) s (concluded_low (directive_of l) (innermost s.groups) c)) in
+          let h : Shows Low (s.count + count_of c) (go m s') = rw o at
+          (applied_shows Low r n (count_of c) s (concluded_low (directive_of l) (innermost s.groups) c)) in
           h.0
       by (Unread r) q = let h : Shows Below (s.count + 0) (go m s') = rw (q, e) at (step_marked t δ n s l f) in omega (arith, h.0)
 

@@ -45,7 +45,8 @@ module _ (t u n : List ℕ) (same : record_under t n ≡ record_under u n) where
   same_content : content_in t (setting_under t n).value ≡ content_in u (setting_under u n).value
   same_content = ap (λ c. c.content) (under_content t n) ∙ ap (λ r. (contents_of r).content) same ∙ sym (ap (λ c. c.content) (under_content u n))
 
-  same_setting : (e : List ℕ) → erase_places (denote_value (over e t) (setting_under t n).value) ≡ erase_places (denote_value (over e u) (setting_under u n).value)
+  same_setting : (e : List ℕ) → erase_places (denote_value (over e t) (setting_under t n).value)
+      ≡ erase_places (denote_value (over e u) (setting_under u n).value)
   same_setting e =
       setting_given e t (setting_under t n).value (under_within t n) ∙ ap given same_content
       ∙ sym (setting_given e u (setting_under u n).value (under_within u n))

@@ -31,7 +31,8 @@ number_no_clash a h = ne_eqb (kind_number a) 3 (λ e. absurd (omega (arith, e, e
 
 pub alike_no_clash : (a b : Kind) → alike_kinds a b ≡ true → (clashes a ≡ false) × (clashes b ≡ false)
 alike_no_clash a b h =
-    let same : kind_number a ≡ kind_number b = eqb-true (kind_number a) (kind_number b) (and_left (eqb (kind_number a) (kind_number b)) (ltb (kind_number a) 3) h) in
+    let same : kind_number a ≡ kind_number b = eqb-true (kind_number a) (kind_number b)
+    (and_left (eqb (kind_number a) (kind_number b)) (ltb (kind_number a) 3) h) in
     let low : kind_number a < 3 = ltb-true (kind_number a) 3 (and_right (eqb (kind_number a) (kind_number b)) (ltb (kind_number a) 3) h) in (
       ne_eqb (kind_number a) 3 (λ e. absurd (omega (arith, e, low))),
       ne_eqb (kind_number b) 3 (λ e. absurd (omega (arith, e, low, same))),
@@ -43,3 +44,6 @@ suited_no_clash o a b = by (compares o)
     by : (c : Bool) → pick c (alike_kinds a b) (is_number a && is_number b) ≡ true → (clashes a ≡ false) × (clashes b ≡ false)
     by true h = alike_no_clash a b h
     by false h = (number_no_clash a (and_left (is_number a) (is_number b) h), number_no_clash b (and_right (is_number a) (is_number b) h))
+
+-- what shows that three operands that suit each other have no clash
+pub ruleset no_clashes = (no_clash, number_no_clash, alike_no_clash)

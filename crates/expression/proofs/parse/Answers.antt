@@ -23,7 +23,8 @@ module _ (i : Input) (s : Ready i.own i.table i.codes i.starts i.lens i.values i
 
   -- it leaves the result of the parser
   folded : (z : CodedAttributes) → Folds i most o m z
-      → Yields code_of (meaning (memory_of i)) (token_at i.codes i.starts i.lens i.values i.n) i.n (find expression 0) (got (denote_attributes (memory_of i) z) j)
+      → Yields code_of (meaning (memory_of i)) (token_at i.codes i.starts i.lens i.values i.n) i.n (find expression 0)
+      (got (denote_attributes (memory_of i) z) j)
   folded z f =
       let l = length-take-le m o (omega (arith, w.most, w.long)) in
       come i most s.holding.few (take m o) j (omega (arith, l, w.most)) (omega (arith, l)) w.made z f

@@ -13,7 +13,8 @@ invariant-loop-i l =
     record {
       inside : l.i ≤ l.count.0;
       few : l.depth ≤ l.i;
-      same : first_place (bars_outside code_of 0 (tokens_from tok 0 l.count.0)) ≡ first_place (bars_outside code_of l.depth (tokens_from tok l.i (l.count.0 - l.i)));
+      same : first_place (bars_outside code_of 0 (tokens_from tok 0 l.count.0))
+          ≡ first_place (bars_outside code_of l.depth (tokens_from tok l.i (l.count.0 - l.i)));
     }
 
 abbrev pub decreases-loop-i : goal.decreases-loop-i

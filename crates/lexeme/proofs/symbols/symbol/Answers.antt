@@ -38,19 +38,24 @@ pub returns-in-37 : goal.returns-in-37
 returns-in-37 c = rw (symbol_hit c.args.s.now, ← c.byte_at-a.ensures, ← c.byte_at-b.ensures, c.in-37.is) c.found-in-37.ensures
 
 pub returns-then-b-eq60 : goal.returns-then-b-eq60
-returns-then-b-eq60 c = rw (symbol_hit c.args.s.now, ← c.byte_at-a.ensures, ← c.byte_at-b.ensures, c.in-60.is, eq-eqb _ _ c.if-b-eq60.true) c.found-then-b-eq60.ensures
+returns-then-b-eq60 c =
+    rw (symbol_hit c.args.s.now, ← c.byte_at-a.ensures, ← c.byte_at-b.ensures, c.in-60.is, eq-eqb _ _ c.if-b-eq60.true) c.found-then-b-eq60.ensures
 
 pub returns-else-b-eq60 : goal.returns-else-b-eq60
-returns-else-b-eq60 c = rw (symbol_hit c.args.s.now, ← c.byte_at-a.ensures, ← c.byte_at-b.ensures, c.in-60.is, ne_eqb _ _ c.if-b-eq60.false) c.either-else-b-eq60.ensures
+returns-else-b-eq60 c =
+    rw (symbol_hit c.args.s.now, ← c.byte_at-a.ensures, ← c.byte_at-b.ensures, c.in-60.is, ne_eqb _ _ c.if-b-eq60.false) c.either-else-b-eq60.ensures
 
 pub returns-then-b-eq62 : goal.returns-then-b-eq62
-returns-then-b-eq62 c = rw (symbol_hit c.args.s.now, ← c.byte_at-a.ensures, ← c.byte_at-b.ensures, c.in-62.is, eq-eqb _ _ c.if-b-eq62.true) c.found-then-b-eq62.ensures
+returns-then-b-eq62 c =
+    rw (symbol_hit c.args.s.now, ← c.byte_at-a.ensures, ← c.byte_at-b.ensures, c.in-62.is, eq-eqb _ _ c.if-b-eq62.true) c.found-then-b-eq62.ensures
 
 pub returns-else-b-eq62 : goal.returns-else-b-eq62
-returns-else-b-eq62 c = rw (symbol_hit c.args.s.now, ← c.byte_at-a.ensures, ← c.byte_at-b.ensures, c.in-62.is, ne_eqb _ _ c.if-b-eq62.false) c.either-else-b-eq62.ensures
+returns-else-b-eq62 c =
+    rw (symbol_hit c.args.s.now, ← c.byte_at-a.ensures, ← c.byte_at-b.ensures, c.in-62.is, ne_eqb _ _ c.if-b-eq62.false) c.either-else-b-eq62.ensures
 
 pub returns-then-b-eq61 : goal.returns-then-b-eq61
-returns-then-b-eq61 c = rw (symbol_hit c.args.s.now, ← c.byte_at-a.ensures, ← c.byte_at-b.ensures, c.in-61.is, eq-eqb _ _ c.if-b-eq61.true) c.found-then-b-eq61.ensures
+returns-then-b-eq61 c =
+    rw (symbol_hit c.args.s.now, ← c.byte_at-a.ensures, ← c.byte_at-b.ensures, c.in-61.is, eq-eqb _ _ c.if-b-eq61.true) c.found-then-b-eq61.ensures
 
 pub returns-else-b-eq61 : goal.returns-else-b-eq61
 returns-else-b-eq61 c = rw (symbol_hit c.args.s.now, ← c.byte_at-a.ensures, ← c.byte_at-b.ensures, c.in-61.is, ne_eqb _ _ c.if-b-eq61.false)

@@ -4,4 +4,14 @@ use Rattle.lexeme.proofs.words.word_of_2.Goals as goal
 
 pub returns : goal.returns
 unfolding spelled
-returns c = rw (c.spelled_so.ensures, c.spelled_so-r-7.ensures, c.spelled_so-r-6.ensures, c.spelled_so-r-5.ensures, c.spelled_so-r-4.ensures, c.spelled_so-r-3.ensures, c.spelled_so-r-2.ensures, c.spelled_so-r.ensures)
+returns c =
+    rw (
+      c.spelled_so.ensures,
+      c.spelled_so-r-7.ensures,
+      c.spelled_so-r-6.ensures,
+      c.spelled_so-r-5.ensures,
+      c.spelled_so-r-4.ensures,
+      c.spelled_so-r-3.ensures,
+      c.spelled_so-r-2.ensures,
+      c.spelled_so-r.ensures,
+    )

@@ -47,22 +47,38 @@ pub returns-then-file-i-eq10-2 : goal.returns-then-file-i-eq10-2
 returns-then-file-i-eq10-2 c = found (passed_1 c.loop-i.invariant.2 (omega arith) c.if-file-i-eq10.false) (omega arith) c.if-file-i-eq10-2.true
 
 pub returns-then-file-i-eq10-3 : goal.returns-then-file-i-eq10-3
-returns-then-file-i-eq10-3 c = found (passed_2 c.loop-i.invariant.2 (omega arith) c.if-file-i-eq10.false c.if-file-i-eq10-2.false) (omega arith) c.if-file-i-eq10-3.true
+returns-then-file-i-eq10-3 c =
+    found (passed_2 c.loop-i.invariant.2 (omega arith) c.if-file-i-eq10.false c.if-file-i-eq10-2.false) (omega arith) c.if-file-i-eq10-3.true
 
 pub returns-then-file-i-eq10-4 : goal.returns-then-file-i-eq10-4
-returns-then-file-i-eq10-4 c = found (passed_3 c.loop-i.invariant.2 (omega arith) c.if-file-i-eq10.false c.if-file-i-eq10-2.false c.if-file-i-eq10-3.false) (omega arith) c.if-file-i-eq10-4.true
+returns-then-file-i-eq10-4 c =
+    found (passed_3 c.loop-i.invariant.2 (omega arith) c.if-file-i-eq10.false c.if-file-i-eq10-2.false c.if-file-i-eq10-3.false) (omega arith)
+    c.if-file-i-eq10-4.true
 
 pub returns-then-file-i-eq10-5 : goal.returns-then-file-i-eq10-5
-returns-then-file-i-eq10-5 c = found (passed_4 c.loop-i.invariant.2 (omega arith) c.if-file-i-eq10.false c.if-file-i-eq10-2.false c.if-file-i-eq10-3.false c.if-file-i-eq10-4.false) (omega arith) c.if-file-i-eq10-5.true
+returns-then-file-i-eq10-5 c =
+    found (passed_4 c.loop-i.invariant.2 (omega arith) c.if-file-i-eq10.false c.if-file-i-eq10-2.false c.if-file-i-eq10-3.false c.if-file-i-eq10-4.false)
+    (omega arith) c.if-file-i-eq10-5.true
 
 pub returns-then-file-i-eq10-6 : goal.returns-then-file-i-eq10-6
-returns-then-file-i-eq10-6 c = found (passed_5 c.loop-i.invariant.2 (omega arith) c.if-file-i-eq10.false c.if-file-i-eq10-2.false c.if-file-i-eq10-3.false c.if-file-i-eq10-4.false c.if-file-i-eq10-5.false) (omega arith) c.if-file-i-eq10-6.true
+returns-then-file-i-eq10-6 c =
+    found (passed_5 c.loop-i.invariant.2 (omega arith) c.if-file-i-eq10.false c.if-file-i-eq10-2.false c.if-file-i-eq10-3.false c.if-file-i-eq10-4.false
+    c.if-file-i-eq10-5.false) (omega arith) c.if-file-i-eq10-6.true
 
 pub returns-then-file-i-eq10-7 : goal.returns-then-file-i-eq10-7
-returns-then-file-i-eq10-7 c = found (passed_6 c.loop-i.invariant.2 (omega arith) c.if-file-i-eq10.false c.if-file-i-eq10-2.false c.if-file-i-eq10-3.false c.if-file-i-eq10-4.false c.if-file-i-eq10-5.false c.if-file-i-eq10-6.false) (omega arith) c.if-file-i-eq10-7.true
+returns-then-file-i-eq10-7 c =
+    found (passed_6 c.loop-i.invariant.2 (omega arith) c.if-file-i-eq10.false c.if-file-i-eq10-2.false c.if-file-i-eq10-3.false c.if-file-i-eq10-4.false
+    c.if-file-i-eq10-5.false c.if-file-i-eq10-6.false) (omega arith) c.if-file-i-eq10-7.true
 
 pub returns-then-file-i-eq10-8 : goal.returns-then-file-i-eq10-8
-returns-then-file-i-eq10-8 c = found (passed_7 c.loop-i.invariant.2 (omega arith) c.if-file-i-eq10.false c.if-file-i-eq10-2.false c.if-file-i-eq10-3.false c.if-file-i-eq10-4.false c.if-file-i-eq10-5.false c.if-file-i-eq10-6.false c.if-file-i-eq10-7.false) (omega arith) c.if-file-i-eq10-8.true
+returns-then-file-i-eq10-8 c =
+    found (passed_7 c.loop-i.invariant.2 (omega arith) c.if-file-i-eq10.false c.if-file-i-eq10-2.false c.if-file-i-eq10-3.false c.if-file-i-eq10-4.false
+    c.if-file-i-eq10-5.false c.if-file-i-eq10-6.false c.if-file-i-eq10-7.false) (omega arith) c.if-file-i-eq10-8.true
 
 pub loop-i-preserved : goal.loop-i-preserved
-loop-i-preserved c = (omega arith, omega arith, passed_8 c.loop-i.invariant.2 (omega arith) c.if-file-i-eq10.false c.if-file-i-eq10-2.false c.if-file-i-eq10-3.false c.if-file-i-eq10-4.false c.if-file-i-eq10-5.false c.if-file-i-eq10-6.false c.if-file-i-eq10-7.false c.if-file-i-eq10-8.false)
+loop-i-preserved c = (
+  omega arith,
+  omega arith,
+  passed_8 c.loop-i.invariant.2 (omega arith) c.if-file-i-eq10.false c.if-file-i-eq10-2.false c.if-file-i-eq10-3.false
+      c.if-file-i-eq10-4.false c.if-file-i-eq10-5.false c.if-file-i-eq10-6.false c.if-file-i-eq10-7.false c.if-file-i-eq10-8.false,
+)

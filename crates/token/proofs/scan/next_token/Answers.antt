@@ -17,5 +17,6 @@ returns-in-Blank c =
 
 pub returns-in-Comment : goal.returns-in-Comment
 returns-in-Comment c =
-    at_comment c.args.expr.now c.args.at.0 c.args.after c.args.dialect c.if-expr-from.false c.class_of-class.result c.class_of-class.ensures (200 - c.args.read.0)
+    at_comment c.args.expr.now c.args.at.0 c.args.after c.args.dialect c.if-expr-from.false c.class_of-class.result c.class_of-class.ensures
+    (200 - c.args.read.0)
     c.in-Comment.is
