@@ -3,12 +3,12 @@
 # make install                command, libraries, header, man page and completion into PREFIX=/usr/local; also DESTDIR=.. and PYTHONDIR=..
 # make uninstall              removes what make install put there; it takes the same variables
 # make deb                    a Debian package of the same, target/korzhinay_VERSION_ARCHITECTURE.deb
-# make quick                  before a commit: layout, lints, proofs (what did not change is not proved again), tests
-# make test                   the gate: proofs from nothing, must-fail edits, tests (what .ci/run runs); RT_JOBS=N checks at a time
+# make quick                  before a commit: lints, proofs (what did not change is not proved again), tests
+# make test                   the gate: proofs, must-fail edits, layout, tests (what .ci/run runs)
 # make check [CRATE=..]       proofs of all crates, or of one and those below it; what did not change is not proved again
 # make must-fail CRATE=..     the must-fail edits of one crate; EDIT=.. for one of them
 # make fmt                    puts all sources into their layout
-# make lint                   layout and lints: Rattle, Rust, shell
+# make lint                   layout and lints of everything that is not Rattle
 # make house [NAME=..]        what can be told of the sources as text: crates.txt, the page of promises
 # make vectors [NAME=..]      vectors; NAME is a part, as value, or one vector, as value:7 or 'value:1 << 64'
 # make command [CASE=..]      cases of the command; CASE is a folder of tests/command/cases
@@ -33,9 +33,7 @@ LIB := target/staticlib/libkorzhinay.a
 VERSION := $(shell sed -n 's/^\#define KORZHINAY_VERSION "\(.*\)"/\1/p' include/korzhinay.h)
 NUMBERS := $(subst ., ,$(VERSION))
 SONAME := libkorzhinay.so.$(firstword $(NUMBERS))$(if $(filter 0,$(firstword $(NUMBERS))),.$(word 2,$(NUMBERS)))
-PROVED := crates.txt $(shell find crates -type f -not -path '*/must-fail/*')
-# What the library is made of: the crates on which the one with the calls depends.
-LAYERS := $(shell sed -n 's/\#.*//; s/^korzhinay://p' crates.txt)
+PROVED := crates.txt $(shell find crates -type f -not -path '*/must-fail/*' -not -path '*/out/*')
 COMMAND := $(shell find cli bindings -type f -not -path '*/target/*' 2>/dev/null)
 PACKAGES := $(shell find . -name Cargo.toml -not -path '*/target/*')
 CARGO := CARGO_TARGET_DIR="$(CURDIR)/target/cargo" KORZHINAY_LIB_DIR="$(CURDIR)/target/staticlib" cargo
@@ -54,9 +52,10 @@ given = $(if $(filter command,$(origin $(1))),"$$$(1)")
 all: target/libkorzhinay.so target/korzhinay target/korzhinay.1 target/korzhinay.bash
 
 $(LIB): $(PROVED)
-	@echo "Proving the library's crates: 4 to 6 minutes on two cores if nothing is proved yet"
-	$(call rt,library,rt check $(LAYERS) && rt staticlib korzhinay)
-	@touch $@
+	@echo "Proving the library's crates: some minutes if nothing is proved yet"
+	$(call rt,library,cd crates/korzhinay_c && rt lib)
+	@mkdir -p $(@D)
+	@cp crates/korzhinay_c/out/libkorzhinay_c.a $@
 
 target/libkorzhinay.so: $(LIB) include/korzhinay.h
 	@gcc -shared -o $@ -Wl,-soname,$(SONAME) -Wl,--whole-archive $(LIB) -Wl,--no-whole-archive
@@ -83,18 +82,17 @@ test:
 	.ci/run
 
 check:
-	$(call rt,check,rt check $(CRATE))
+	$(call rt,check,$(if $(CRATE),cd crates/$(CRATE) && rt check,rt all check))
 
 must-fail:
 	@[ -n "$(CRATE)" ] || { echo "make must-fail CRATE=.. [EDIT=..]"; exit 2; }
 	@python3 tests/must_fail.py $(CRATE) $(EDIT)
 
 fmt:
-	rt fmt
+	for crate in crates/*/; do (cd "$$crate" && rt fmt) || exit 1; done
 	for package in $(PACKAGES); do cargo fmt --manifest-path "$$package" || exit 1; done
 
 lint:
-	rt fmt --check
 	python3 tests/lint.py
 
 house:
@@ -134,7 +132,7 @@ fuzz: $(LIB)
 	cd tests/differential && $(CARGO) run --offline --release --quiet -- --seed $$(date +%s) --seconds $(SECONDS)
 
 clean:
-	rm -rf target
+	rm -rf target crates/*/out
 
 help:
 	@sed -n '/^$$/q; s/^# //p' Makefile

@@ -1,10 +1,11 @@
 """What the proofs and the must-fail edits cost, crate by crate.
 
-costs.py watch FILE       until it is ended: notes in FILE the processor seconds of each run of the prover below this folder
-costs.py report FILE LOG  prints the table, from that file and from what `rt ci` printed
+costs.py watch FILE   until it is ended: notes in FILE the processor seconds of each run of the prover for this folder
+costs.py report FILE  prints the table, from that file
 
 The watch only reads /proc, so it cannot change a verdict. It looks every tenth of a second, so what a run used after the last look is
-missing: less than a hundredth. Where there is no /proc, or nothing was noted, the seconds are those of the clock, as `rt` prints them."""
+missing: less than a hundredth. What `rt ci` passed before on this machine it does not prove again: the table has the crates that it did
+prove, and there is none where there is no /proc."""
 import collections
 import glob
 import json
@@ -15,8 +16,8 @@ import sys
 import time
 
 ROOT = os.path.dirname(os.path.dirname(os.path.realpath(__file__)))
-CHECKED = re.compile(re.escape(ROOT) + r"/crates/(\w+)/src/\w+\.rt")
-EDITED = re.compile(re.escape(ROOT) + r"/target/must-fail/(\w+)/(\w+)/src/\w+\.rt")
+# The folder that a must-fail edit is tried in.
+EDITED = re.compile(r"/rt-edit-\d+-\w+$")
 SECONDS_BETWEEN = 0.1
 
 
@@ -29,13 +30,15 @@ def content(path):
 
 
 def subject(process):
-    """The crate, or the crate and the edit, that a run of the prover is about; none for other processes."""
-    for word in content("/proc/%s/cmdline" % process).decode(errors="replace").split("\0"):
-        for form in CHECKED, EDITED:
-            match = form.fullmatch(word)
-            if match:
-                return "/".join(match.groups())
-    return None
+    """The crate that a run of the prover is about, and after it '/' for one of its edits; none for other processes."""
+    words = content("/proc/%s/cmdline" % process).decode(errors="replace").split("\0")
+    try:
+        folder, crate = os.readlink("/proc/%s/cwd" % process), words[words.index("--crate-name") + 1]
+    except (OSError, ValueError, IndexError):
+        return None
+    if folder == os.path.join(ROOT, "crates", crate):
+        return crate
+    return crate + "/" if EDITED.search(folder) and any(word.startswith(ROOT + "/") for word in " ".join(words).replace("=", " ").split()) else None
 
 
 def look(subjects, seconds):
@@ -66,26 +69,18 @@ def watch(path):
         json.dump(noted, file)
 
 
-def printed(log):
-    """The seconds by the clock that `rt` prints, by crate, and by crate and edit."""
-    text = content(log).decode(errors="replace")
-    return {name: float(took) for name, took in re.findall(r"^rt: (?:must-fail )?([\w/]+):? (?:proved|refused).*?(\d+) s\)$", text, re.M)}
-
-
-def report(path, log):
-    noted = json.loads(content(path) or b"{}")
-    sort = "CPU" if noted else "clock"
-    seconds = noted or printed(log)
+def report(path):
+    seconds = json.loads(content(path) or b"{}")
     crates = [name for name in seconds if "/" not in name]
     rows, both = [], "check x (1 + edits)"
     for crate in crates:
         edits = len(glob.glob(os.path.join(ROOT, "crates", crate, "must-fail", "*.edit")))
         tried = sum(used for name, used in seconds.items() if name.startswith(crate + "/"))
         rows.append((crate, seconds[crate], edits, seconds[crate] * (1 + edits), tried))
-    print("%-24s %9s %6s %20s %11s   (%s seconds)" % ("crate", "check", "edits", both, "edits took", sort))
+    print("%-24s %9s %6s %20s %11s   (CPU seconds)" % ("crate", "check", "edits", both, "edits took"))
     for row in rows + [("all %d crates" % len(rows), *map(sum, list(zip(*rows))[1:]))] if rows else []:
         print("%-24s %9.1f %6d %20.0f %11.0f" % row)
-    print("sum over crates of (check time) x (1 + edits): %.0f %s seconds" % (sum(row[3] for row in rows), sort))
+    print("sum over crates of (check time) x (1 + edits): %.0f CPU seconds" % sum(row[3] for row in rows))
 
 
 {"watch": watch, "report": report}[sys.argv[1]](*sys.argv[2:])

@@ -10,7 +10,7 @@ from tally import check, end
 
 ROOT = os.path.dirname(os.path.dirname(os.path.abspath(__file__)))
 # What was made, and texts that only look like something to be linted.
-PASSED_OVER = {"target", ".git", "__pycache__", "cases", "corpus"}
+PASSED_OVER = {"target", "out", ".git", "__pycache__", "cases", "corpus"}
 
 
 def sources():

@@ -11,5 +11,9 @@ def read(path):
 
 def files(folder, *endings):
     """The files below a folder with these endings, by their paths from the root on, in order."""
-    paths = [os.path.join(place, name) for place, _, names in os.walk(os.path.join(ROOT, folder)) for name in names]
-    return sorted(os.path.relpath(path, ROOT) for path in paths if path.endswith(endings))
+    found = []
+    for place, folders, names in os.walk(os.path.join(ROOT, folder)):
+        # what `rt` made
+        folders[:] = [inner for inner in folders if inner != "out"]
+        found += [os.path.relpath(os.path.join(place, name), ROOT) for name in names if name.endswith(endings)]
+    return sorted(found)
