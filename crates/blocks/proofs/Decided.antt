@@ -1,5 +1,5 @@
--- A selection by the blocks of its file: lines derive at most one list of blocks, an accepted selection is the meaning of its blocks, and
--- lines that derive blocks within the limits are selected as these mean. Assumes nothing.
+-- A run by the blocks of its lines: lines derive at most one list of blocks, and lines that derive blocks within the limits run as these
+-- mean. Assumes nothing.
 use Prim.Native.Nat.{ℕ, ◌+◌, ◌≤◌}
 use native.Mathlib.Omega.{arith}
 use native.Mathlib.Nat.{zero-add, add_comm}
@@ -50,20 +50,3 @@ refused_means (fault y j) x i e =
     let q : j + 1 ≡ i + 1 = cc in
     let z : j ≡ i = omega arith in
     rw (p, z)
-
-pub complete : (f t : List ℕ) (δ : Dialect) (room : ℕ) (bs : Blocks)
-    → well_formed t ≡ true → length f ≤ 65536 → length (lines f) ≤ 4096 → length (lines f) ≤ room
-    → Derives (lines f) bs → depth bs ≤ 16 → WithinLimit (lines f) → selection f t room δ ≡ result_of (meaning t [] true bs δ)
-complete f t δ room bs sound small few enough d h s = runs f t δ room sound small few enough ∙ run_complete t δ (lines f) bs d h s
-
-pub sound : (f t : List ℕ) (δ : Dialect) (room : ℕ) (ms : List ℕ) (c : ℕ) → selection f t room δ ≡ accepted ms c
-    → (bs : Blocks) × Derives (lines f) bs × (depth bs ≤ 16) × WithinLimit (lines f)
-    × (own : List Own) × (meaning t [] true bs δ ≡ means ms c own)
-sound f t δ room ms c e =
-    let r = (accepted_runs f t δ room ms c e).0 in
-    let w = accepted_follows t δ (lines f) 1 start ms c (omega arith) r in
-    let bs = w.0.blocks in
-    let d : Derives (lines f) bs = record { lines = w.0.lines ∙ rw (w.0.next, append-nil); words = w.0.fits } in
-    let h : depth bs ≤ 16 = omega (arith, w.0.deep) in
-    let a = accepted_means (meaning t [] true bs δ) ms c (sym (run_complete t δ (lines f) bs d h w.1) ∙ r) in
-    (bs, d, h, w.1, a.0, a.1)

@@ -33,11 +33,11 @@ then_sorted : (a : Meaning) (b : List Own → Meaning) → Sorted a → ((own : 
 then_sorted (means ms c own) b h k = joined_sorted ms c (b own) (k own)
 then_sorted (fault x i) b h k = h
 
-module _ (body others : Bool → List Own → Meaning) (in_Body : (b : Bool) (own : List Own) → Sorted (body b own))
+module _ (body others : Bool → List Own → Meaning) (in_body : (b : Bool) (own : List Own) → Sorted (body b own))
     (in-others : (b : Bool) (own : List Own) → Sorted (others b own)) where
   line_sorted : (m c : ℕ) (own : List Own) (live taken : Bool) → Sorted (single m c own then body live then others taken)
   line_sorted m c own live taken =
-      then_sorted (single m c own then body live) (others taken) (then_sorted (single m c own) (body live) tt (in_Body live)) (in-others taken)
+      then_sorted (single m c own then body live) (others taken) (then_sorted (single m c own) (body live) tt (in_body live)) (in-others taken)
 
   branch_sorted : (r : Bool) (c : Condition) (taken : Bool) (own : List Own) → InCondition c → Sorted (branch r c taken own body others)
   branch_sorted false c taken own h = line_sorted 2 0 own false taken

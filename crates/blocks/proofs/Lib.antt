@@ -10,6 +10,7 @@ pub mod Unambiguous
 pub mod TextFaults
 pub mod DefineFaults
 pub mod Decided
+pub mod WholeSelections
 pub mod MarksTellReading
 pub mod NextLine
 pub mod PassedLines

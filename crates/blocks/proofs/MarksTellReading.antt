@@ -26,7 +26,8 @@ use Rattle.blocks.specs.Meaning.{Meaning, means, fault, single, joined, ◌then�
 use Rattle.blocks.specs.Reading.{holds, settings, reads_of, reads_in}
 use Rattle.blocks.proofs.StepByWord.{opens_other}
 use Rattle.blocks.proofs.Unambiguous.{place}
-use Rattle.blocks.proofs.Decided.{unambiguous, sound}
+use Rattle.blocks.proofs.Decided.{unambiguous}
+use Rattle.blocks.proofs.WholeSelections.{sound}
 
 -- the mark m of line l: 3 to 6 exactly if the line is read, and 6 exactly if it is read and its first word is `DEFINE`
 abbrev pub Tells : (l : List ℕ) → (read : Bool) → (m : ℕ) → Type 0
@@ -125,22 +126,22 @@ module _ (l : List ℕ) where
       by false e = rw e (kept_shows around own)
 
 -- a branch whose body and later branches show what is read in them
-module _ (l : List ℕ) (other : directive_of l ≡ Plain → ⊥) (in_Body in-others : List (List ℕ))
+module _ (l : List ℕ) (other : directive_of l ≡ Plain → ⊥) (in_body in-others : List (List ℕ))
     (reads-body reads-others : Bool → List Own → List Bool) (body others : Bool → List Own → Meaning)
-    (body-shows : (b : Bool) (own : List Own) → Shown in_Body (reads-body b own) (body b own))
+    (body-shows : (b : Bool) (own : List Own) → Shown in_body (reads-body b own) (body b own))
     (others-show : (b : Bool) (own : List Own) → Shown in-others (reads-others b own) (others b own)) where
   abbrev Branch : (read live taken : Bool) → List Own → Meaning → Type 0
   Branch r live taken own x =
-      Shows (l ∷ (in_Body ++ in-others)) (r ∷ (reads-body live own ++ reads-others taken (settings (body live own))))
+      Shows (l ∷ (in_body ++ in-others)) (r ∷ (reads-body live own ++ reads-others taken (settings (body live own))))
       (settings (others taken (settings (body live own)))) x
 
   line_shows : (r : Bool) (m c : ℕ) (own : List Own) (live taken : Bool) → Shows (l ∷ []) (r ∷ []) own (single m c own)
       → Branch r live taken own (single m c own then body live then others taken)
   line_shows r m c own live taken h =
       let own₁ : List Own = settings (body live own) in
-      shows_then (l ∷ in_Body) in-others (r ∷ reads-body live own) (reads-others taken own₁) own₁ (settings (others taken own₁))
+      shows_then (l ∷ in_body) in-others (r ∷ reads-body live own) (reads-others taken own₁) own₁ (settings (others taken own₁))
       (single m c own then body live) (others taken)
-      (shows_then (l ∷ []) in_Body (r ∷ []) (reads-body live own) own own₁ (single m c own) (body live) h (body-shows live own))
+      (shows_then (l ∷ []) in_body (r ∷ []) (reads-body live own) own own₁ (single m c own) (body live) h (body-shows live own))
       (others-show taken own₁)
 
   branch_shows : (r : Bool) (c : Condition) (earlier : Bool) (own : List Own)

@@ -94,16 +94,16 @@ module _ (t : List ℕ) (δ : Dialect) where
     closing_means true (Fails n) = refl
     closing_means true (Refused x) = tt
 
-    module _ (in_Body in-others : List (List ℕ)) (body others : Bool → List Own → Meaning)
-        (body-means : (b : Bool) (a : List Own) → Means a in_Body (body b a)) (others-mean : (b : Bool) (a : List Own) → Means a in-others (others b a)) where
+    module _ (in_body in-others : List (List ℕ)) (body others : Bool → List Own → Meaning)
+        (body-means : (b : Bool) (a : List Own) → Means a in_body (body b a)) (others-mean : (b : Bool) (a : List Own) → Means a in-others (others b a)) where
       after : (m k : ℕ) (b e : Bool) → Means own (l ∷ []) (single m k own)
-          → Means own (l ∷ (in_Body ++ in-others)) (single m k own then body b then others e)
+          → Means own (l ∷ (in_body ++ in-others)) (single m k own then body b then others e)
       after m k b e h =
           let first : Meaning = single m k own in
-          let more = means_then own (l ∷ []) in_Body first (body b) h (body-means b) in
-          means_then own (l ∷ in_Body) in-others (first then body b) (others e) more (others-mean e)
+          let more = means_then own (l ∷ []) in_body first (body b) h (body-means b) in
+          means_then own (l ∷ in_body) in-others (first then body b) (others e) more (others-mean e)
 
-      branch_means : (read : Bool) (c : Condition) (earlier : Bool) → Means own (l ∷ (in_Body ++ in-others)) (branch read c earlier own body others)
+      branch_means : (read : Bool) (c : Condition) (earlier : Bool) → Means own (l ∷ (in_body ++ in-others)) (branch read c earlier own body others)
       branch_means false c earlier = after 2 0 false earlier refl
       branch_means true (Holds n) earlier = after 4 n true true refl
       branch_means true (Fails n) earlier = after 3 n false earlier refl

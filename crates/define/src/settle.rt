@@ -90,7 +90,7 @@ fn put_text<'a>(
 ) -> Defined
     requires { (used ≤ 8192) × (used % 128 ≡ 0) × InRecord p }
     ensures used_bound { (result.used ≤ 8192) × (length own.new ≡ 8192) }
-    ensures does { (o : List Own) → Holds own.old used o → Does (limited_text o (record { name = name.entry.now; kind = kind; content = bytes_at (over_all expr.now (take used own.old) table.now) p }) count) o own.new result }
+    ensures does { (o : List Own) → Holds own.old used o → Does (limited_text o (record { name = name.now; kind = kind; content = bytes_at (over_all expr.now (take used own.old) table.now) p }) count) o own.new result }
     ensures unchanged { result.ok ≡ false → own.new ≡ own.old }
 {
     let all = &own[..];

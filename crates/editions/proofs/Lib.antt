@@ -6,6 +6,7 @@ pub mod Placed
 pub mod SameReading
 pub mod SameAnswers
 pub mod SameConditions
+pub mod SameEvaluated
 pub mod SameDefinitions
 pub mod SameSelections
 pub mod Names

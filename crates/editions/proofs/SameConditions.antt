@@ -1,4 +1,5 @@
--- Where the new edition refuses the text after a word neither with 3 nor with 22, both editions make the same condition of it. Assumes nothing.
+-- Where the new edition refuses an expression or a macro's name neither with 3 nor with 22, both editions make the same condition of it.
+-- Assumes nothing.
 use Prim.Native.Nat.{ℕ}
 use native.Mathlib.Omega.{arith}
 use mathlib.Core.Path.{◌≡◌, refl, ap}
@@ -37,7 +38,7 @@ abbrev pub Fine : ℕ → Type 0
 Fine n = (n ≡ TOKEN_BAD → ⊥) × (n ≡ TEXT_MALFORMED → ⊥)
 
 -- the old edition's condition x is the new one's y, if y is fine
-abbrev Same : (x y : Condition) → Type 0
+abbrev pub Same : (x y : Condition) → Type 0
 Same x y = Fine (condition_number y) → x ≡ y
 
 unanswered : (x : Evaluation) → Fine (condition_number (of_answer x)) → refusal_number x ≡ TOKEN_BAD → ⊥
@@ -60,42 +61,17 @@ new_name s δ = by (eqb (get_or s 0 0) (byte "$")) refl
     by false q = rw q
 
 module _ (t : List ℕ) (δ : Dialect) where
-  same_expression : (s : List ℕ) → Same (of_expression t s (in_old δ)) (of_expression t s (in_new δ))
+  pub same_expression : (s : List ℕ) → Same (of_expression t s (in_old δ)) (of_expression t s (in_new δ))
   unfolding of_expression
   same_expression s =
       pick_both Same (spaced s)
       (λ _ h. ap of_answer (same_answer_in (over s t) (in_directives δ) (unanswered (evaluation_in (over s t) (in_new (in_directives δ))) h)))
       (λ _ _. refl)
 
-  same_name : (wanted : Bool) (s : List ℕ) → Same (of_named t wanted s (name_at s (in_old δ))) (of_named t wanted s (name_at s (in_new δ)))
+  pub same_name : (wanted : Bool) (s : List ℕ) → Same (of_named t wanted s (name_at s (in_old δ))) (of_named t wanted s (name_at s (in_new δ)))
   unfolding name_at of_named
   same_name wanted s = by (eqb (get_or s 0 0) (byte "$")) refl
     where
       by : (b : Bool) → eqb (get_or s 0 0) (byte "$") ≡ b → Same (of_named t wanted s (name_at s (in_old δ))) (of_named t wanted s (name_at s (in_new δ)))
       by true e h = absurd (h.1 (rw (new_name s δ, no_name s e)))
       by false e h = rw e
-
-  same_macro : (wanted : Bool) (s : List ℕ) → Same (of_macro t wanted s (in_old δ)) (of_macro t wanted s (in_new δ))
-  unfolding of_macro
-  same_macro wanted s = pick_both Same (spaced s) (λ _. same_name wanted (drop (span Blanks s) s)) (λ _ _. refl)
-
-  same_evaluated : (d : Directive) (s : List ℕ) → Same (evaluate t d s (in_old δ)) (evaluate t d s (in_new δ))
-  unfolding evaluate
-  same_evaluated If s h = same_expression s h
-  same_evaluated Elseif s h = same_expression s h
-  same_evaluated Ifdef s h = same_macro true s h
-  same_evaluated Ifndef s h = same_macro false s h
-  same_evaluated Else s h = refl
-  same_evaluated Endif s h = refl
-  same_evaluated Plain s h = refl
-  same_evaluated Unknown s h = refl
-
-  in_line_number : (p : ℕ) (c : Condition) → condition_number (in_line p c) ≡ condition_number c
-  in_line_number p (Holds n) = refl
-  in_line_number p (Fails n) = refl
-  in_line_number p (Refused f) = refl
-
-  -- THE THEOREM
-  pub same_condition : (d : Directive) (l : List ℕ) → Same (condition_of t d l (in_old δ)) (condition_of t d l (in_new δ))
-  same_condition d l h =
-      ap (in_line (text_start l)) (same_evaluated d (text_of l) (rw (in_line_number (text_start l) (evaluate t d (text_of l) (in_new δ))) at h))

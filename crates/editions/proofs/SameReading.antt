@@ -19,7 +19,7 @@ use Rattle.codes.specs.Levels.{is_equality}
 use Rattle.codes.specs.declared.Scanned.{Scanned}
 use Rattle.codes.specs.declared.Scanned.TheVariants.{Found, Refused as Bad}
 use Rattle.lexeme.specs.Lexeme.{lexeme}
-use Rattle.token.specs.Tokens.{MAX_BYTES, MAX_TOKENS, Reading, ending_number, ◌followed-by◌, read_token, read_byte, read_from, check_depth, checked, reading}
+use Rattle.token.specs.Tokens.{MAX_BYTES, MAX_TOKENS, Reading, ending_number, ◌followed_by◌, read_token, read_byte, read_from, check_depth, checked, reading}
 use Rattle.token.specs.declared.scan.Ending.{Ending}
 use Rattle.token.specs.declared.scan.Ending.TheVariants.{Complete, Refused}
 use Rattle.editions.specs.BareWords.{BareWord}
@@ -56,7 +56,7 @@ module _ (δ : Dialect) where
       by_token zero x y w ih h = refl
       by_token (suc room) (Bad r) y (inl e) ih h = rw e
       by_token (suc room) (Found f) y (inl e) ih h =
-          rw e (ap (λ r. record { code = f.code; start = at; len = f.len; value = f.value } followed-by r) (ih room (f.len - 1) (is_equality f.code) h))
+          rw e (ap (λ r. record { code = f.code; start = at; len = f.len; value = f.value } followed_by r) (ih room (f.len - 1) (is_equality f.code) h))
       by_token (suc room) x y (inr e) ih h = let n : Not3 (read_token (suc room) (Bad TOKEN_BAD) at (rest at s (in_new δ))) = rw e at h in absurd (n refl)
 
       by_byte : (c : Class) (room : ℕ) (x y : Scanned) → Alike x y → ((room' k' : ℕ) (a' : Bool) → SameFrom (suc at) room' k' a' s)

@@ -23,7 +23,8 @@ use Rattle.groups.specs.declared.Plan.{Plan}
 use Rattle.groups.specs.declared.Plan.TheVariants.{Read, Unread}
 use Rattle.select.specs.Step.{MAX_LINE, planned, defines, defined, step}
 use Rattle.select.specs.Select.{MAX_FILE, MAX_LINES, Result, accepted, refused, prepend, after, run, start, selection, answer_of, refusal_number}
-use Rattle.editions.proofs.SameConditions.{condition_number, Fine, same_condition}
+use Rattle.editions.proofs.SameConditions.{condition_number, Fine}
+use Rattle.editions.proofs.SameEvaluated.{same_condition}
 use Rattle.editions.proofs.SameDefinitions.{definition_number, same_definition}
 
 -- the number of a refusal, 0 if there is none

@@ -30,7 +30,7 @@ pub fn fold<'a>(
     filled: usize,
 ) -> Attributes
     requires { Foldable (record { expr = expr.now; own = own.now; table = table.now; codes = codes.now; starts = starts.now; lens = lens.now; values = values.now; n = n.0 }) (length waiting.old) order.now filled }
-    ensures { Folds (record { expr = expr.entry.now; own = own.now; table = table.now; codes = codes.now; starts = starts.now; lens = lens.now; values = values.now; n = n.0 }) (length waiting.old) order.now filled result }
+    ensures { Folds (record { expr = expr.now; own = own.now; table = table.now; codes = codes.now; starts = starts.now; lens = lens.now; values = values.now; n = n.0 }) (length waiting.old) order.now filled result }
 {
     let mut top: usize = 0;
     let mut p: usize = 0;

@@ -39,7 +39,7 @@ pub at_most_ten : (rs : List (List ℕ)) (n : List ℕ) → length rs ≤ 512 �
 at_most_ten rs n h = bounded rs n (length rs) _ 0 (length rs) (omega (arith, h))
 
 pub ten_in_a_table : (t n : List ℕ) → ordered t ≡ true → (halving (records t) n).rounds ≤ 10
-ten_in_a_table t n h = at_most_ten (records t) n (few t h)
+ten_in_a_table t n h = bounded (records t) n (length (records t)) _ 0 (length (records t)) (omega (arith, few t h))
 
 power : (b : ℕ) → 0 < 2 ^ b
 power zero = omega arith

@@ -11,7 +11,7 @@ use Rattle.text.specs.Bytes.{pick}
 use Rattle.text.proofs.Laws.{pick_case, and_left, and_right}
 use Rattle.token.specs.Tokens.{Token}
 use Rattle.arithmetic.specs.Operators.{Unary, negation, complement, minus, plus, apply_unary, unary, Binary, product, quotient, remainder, sum}
-use Rattle.arithmetic.specs.Operators.{difference, shift-left, shift-right, bit_and, bit_xor, bit_or, and, xor, or, apply_binary, binary}
+use Rattle.arithmetic.specs.Operators.{difference, shift_left, shift_right, bit_and, bit_xor, bit_or, and, xor, or, apply_binary, binary}
 use Rattle.arithmetic.specs.declared.Outcome.{Outcome}
 use Rattle.arithmetic.specs.declared.Outcome.TheVariants.{Number as Result, Refused}
 use Rattle.lookup.specs.declared.TextKind.{TextKind}
@@ -66,8 +66,8 @@ applied_timely quotient x y = divided_timely y (x / y)
 applied_timely remainder x y = divided_timely y (x % y)
 applied_timely sum x y = ranged_timely (x + y)
 applied_timely difference x y = either (leb y x) (Result (x - y)) (Refused RESULT_RANGE) tt (inl refl)
-applied_timely shift-left x y = ranged_timely (x * 2 ^ y)
-applied_timely shift-right x y = tt
+applied_timely shift_left x y = ranged_timely (x * 2 ^ y)
+applied_timely shift_right x y = tt
 applied_timely bit_and x y = tt
 applied_timely bit_xor x y = tt
 applied_timely bit_or x y = tt

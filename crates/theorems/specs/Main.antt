@@ -58,7 +58,7 @@ use Rattle.beginnings.proofs.FirstBad.{shorter, first_bad_single, locates}
 use Rattle.blame.specs.Blame.{to_blame}
 use Rattle.blame.specs.Nodes.{root}
 use Rattle.blame.specs.Applied.{faulty_nodes}
-use Rattle.blame.proofs.InOrder.{in_order as blame-in-order}
+use Rattle.blame.proofs.InOrder.{in_order as blame_in_order}
 use Rattle.value.specs.Kinds.{clashes}
 use Rattle.value.specs.Values.{Value, number as number_value, text, fault as fault_value, kind_of, HasKind, InBounds, primary_value, is_missing_pcd}
 use Rattle.expression.specs.Meaning.{code_of, meaning as attributes}
@@ -67,10 +67,10 @@ use Rattle.evaluation.specs.Evaluation.{Evaluation, value, refused as refused_by
 use Rattle.evaluation.specs.Evaluation.{answer_value, refused_or}
 use Rattle.evaluation.specs.Evaluation.{start_in, evaluation_in, evaluation}
 use Rattle.answers.specs.Tests.{wrong_kinds, is_fault, fails, skips_right, takes_first}
-use Rattle.answers.proofs.AnswersExact.{malformed, is_well_formed, unreadable as not-read, kind_sound, value_kind, counted}
+use Rattle.answers.proofs.AnswersExact.{malformed, is_well_formed, unreadable as not_read, kind_sound, value_kind, counted}
 use Rattle.answers.proofs.NoDerivation.{seven, seven_at, first_bad_of}
 use Rattle.answers.proofs.MissingPcd.{nine_at, nine_nowhere}
-use Rattle.answers.proofs.Blamed.{tree_decides as by-the-tree}
+use Rattle.answers.proofs.Blamed.{tree_decides as by_the_tree}
 use Rattle.answers.proofs.Faulted.{fault_met, no_fault_met}
 use Rattle.answers.proofs.Unplaced.{offset_zero, offset_in_expression}
 use Rattle.answers.proofs.StringsInBounds.{strings_in_bounds}
@@ -102,7 +102,8 @@ use Rattle.blocks.specs.Passing.{Reaches, SetsUntil}
 use Rattle.blocks.specs.LastSetting.{SetBefore, NotSetBefore}
 use Rattle.blocks.specs.Offsets.{PlacedIn}
 use Rattle.blocks.specs.Refused.{RefusedAt, RefusedAtEnd}
-use Rattle.blocks.proofs.Decided.{unambiguous as blocks-unambiguous, sound, complete, run_complete}
+use Rattle.blocks.proofs.Decided.{unambiguous as blocks_unambiguous, run_complete}
+use Rattle.blocks.proofs.WholeSelections.{sound, complete}
 use Rattle.blocks.proofs.MarksTellReading.{marks_tell_reading}
 use Rattle.blocks.proofs.Refused.{refused_by_blocks}
 use Rattle.blocks.proofs.FaultNumbers.{fault_numbers}
@@ -121,7 +122,7 @@ use Rattle.blocks.proofs.ConditionAnswer.{condition_answer, unspaced}
 use Rattle.isolation.specs.Isolation.{Comparable}
 use Rattle.isolation.proofs.SelectionIsolated.{isolation, two_calls}
 use Rattle.field.specs.Fields.{written_number, field_of, line_of as line_of_field}
-use Rattle.field.proofs.LineZero.{without_line as field-without-line}
+use Rattle.field.proofs.LineZero.{without_line as field_without_line}
 use Rattle.field.proofs.Refused.{refused_field}
 use Rattle.field.proofs.Unplaced.{field_unplaced}
 use Rattle.datum.specs.declared.Written.TheVariants.{Length, Refused as RefusedField}
@@ -133,7 +134,7 @@ use Rattle.editions.proofs.BareWords.{bare_exactly, own_bytes}
 use Rattle.editions.proofs.Read.{read_where_due}
 use Rattle.editions.proofs.Placed.{follow_equalities, none_in_new}
 use Rattle.editions.proofs.UsedNames.{no_dollar_in_new, same_without_dollar, used_is_plain, uses_or_malformed, same_without_argument}
-use Rattle.editions.proofs.SameReading.{same_reading as old-reading}
+use Rattle.editions.proofs.SameReading.{same_reading as old_reading}
 use Rattle.editions.proofs.SameAnswers.{same_answer, same_value, same_field, same_written}
 use Rattle.editions.proofs.SameSelections.{same_selection, same_accepted}
 
@@ -155,7 +156,7 @@ well_formed_table = is_well_formed
 
 -- The refusals of reading the tokens come first: 2 to 6.
 pub unreadable : (m : Memory) (δ : Dialect) (r : Refusal) → (reading m.expression δ).ending ≡ Refused r → evaluation_in m δ ≡ refused_by r
-unreadable = not-read
+unreadable = not_read
 
 -- If reading is complete, it ended at `end`, the place of the expression's `#` or its length. The answer is refusal 7 at offset o exactly if the
 -- tokens derive no tree and o is the place of the first token after which no continuation derives; if there is no such token, o is `end`.
@@ -179,7 +180,7 @@ pub tree_decides : (m : Memory) (δ : Dialect) (end : Offset) → (reading m.exp
     (refused_or (pcd_at m (reading m.expression δ).tokens) PCD_MISSING
     (refused_or (first_place (to_blame (attributes m) wrong_kinds s)) KINDS_UNSUITED
     (answer_value (fold (attributes m) s).value (fold (attributes m) s).count)))
-tree_decides = by-the-tree
+tree_decides = by_the_tree
 
 -- If the kinds in a tree do not clash, its value has the kind of the tree, or it is refusal 11 or 12.
 pub kinds_settle : (m : Memory) (s : Tree Token)
@@ -205,7 +206,7 @@ pub expression_has_no_line : (m : Memory) (δ : Dialect) → line_of (evaluation
 expression_has_no_line = without_line
 
 pub field_has_no_line : (m : Memory) (datum : ℕ) (buffer : List ℕ) (δ : Dialect) → line_of_field (field_of m datum buffer δ).answer ≡ 0
-field_has_no_line = field-without-line
+field_has_no_line = field_without_line
 
 -- PLACES (document 02, order 3). They are offsets in bytes, from the expression's start; in a selection from the line's start.
 
@@ -255,7 +256,7 @@ no_missing_pcd = nine_nowhere
 -- them, which is that of `tree_decides`, is the leftmost.
 pub blamed_from_left_to_right : (m : Memory) (ts : List Token) (s : Tree Token)
     → Derives code_of expression ts s → Sublistᴰ (to_blame (attributes m) wrong_kinds s) ts
-blamed_from_left_to_right m = blame-in-order code_of (attributes m) wrong_kinds expression
+blamed_from_left_to_right m = blame_in_order code_of (attributes m) wrong_kinds expression
 
 -- 11 and 12: if the kinds do not clash and the value of a tree is a fault, it is the fault, with the same number, of the first node, in the order of
 -- evaluation, that fails while none of its evaluated operands does, at the place of its operator; if the value is no fault, there is no such node.
@@ -338,7 +339,7 @@ full_table_exists = full_table
 
 -- Lines derive at most one list of blocks.
 pub one_list_of_blocks : (ls : List (List ℕ)) (a b : Blocks) → DerivesBlocks ls a → DerivesBlocks ls b → a ≡ b
-one_list_of_blocks = blocks-unambiguous
+one_list_of_blocks = blocks_unambiguous
 
 -- Sound: the lines of an accepted selection derive blocks within the limits, and its marks and count are the meaning of the blocks, with the
 -- settings `own` after the last line. The first line has none before it.
@@ -501,7 +502,7 @@ same_after_else_and_endif = same_without_argument
 -- Where the new edition's reading of an expression does not end in 3, the old one's is the same: tokens, ending and place.
 pub old_reads_alike : (e : List ℕ) (δ : Dialect) → (ending_number (reading e (in_new δ)).ending ≡ TOKEN_BAD → ⊥)
     → reading e (in_old δ) ≡ reading e (in_new δ)
-old_reads_alike = old-reading
+old_reads_alike = old_reading
 
 -- An expression that the new edition does not refuse with 3 has the same answer in the old one, whether it is a value or a refusal; so has a data
 -- field, with every byte of its buffer.

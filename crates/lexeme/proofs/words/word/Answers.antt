@@ -12,7 +12,7 @@ use Rattle.lexeme.proofs.words.word.Goals as goal
 
 pub returns-then-pcd-gt0 : goal.returns-then-pcd-gt0
 unfolding word_of
-returns-then-pcd-gt0 c = rw (← c.pcd_name-pcd.ensures, lt-ltb _ _ c.if-pcd-gt0.true) c.found.ensures
+returns-then-pcd-gt0 c = rw (← c.pcd_name-pcd.ensures, lt-ltb 0 c.pcd_name-pcd.result (omega (arith, c.if-pcd-gt0.true))) c.found.ensures
 
 pub string-requires : goal.string-requires
 string-requires c = wide_inside c.args.s.now c.run_end-end.result.0 (sym c.is_wide.ensures ∙ c.if-is_wide.true)
@@ -21,7 +21,7 @@ pub returns-then-is_wide : goal.returns-then-is_wide
 unfolding word_of
 returns-then-is_wide c =
     let e : span Word c.args.s.now ≡ c.run_end-end.result.0 = sym (c.run_end-end.ensures ∙ zero-add _) in
-    rw (e, ← c.pcd_name-pcd.ensures, le-ltb _ _ c.if-pcd-gt0.false, ← c.is_wide.ensures, c.if-is_wide.true) c.string.ensures
+    rw (e, ← c.pcd_name-pcd.ensures, le-ltb 0 c.pcd_name-pcd.result (omega (arith, c.if-pcd-gt0.false)), ← c.is_wide.ensures, c.if-is_wide.true) c.string.ensures
 
 pub slice_bounds-spelled_word-end : goal.slice_bounds-spelled_word-end
 slice_bounds-spelled_word-end c = omega (arith, c.run_end-end.ensures, span_fits Word c.args.s.now)
@@ -30,5 +30,5 @@ pub returns : goal.returns
 unfolding word_of
 returns c =
     let e : span Word c.args.s.now ≡ c.run_end-end.result.0 = sym (c.run_end-end.ensures ∙ zero-add _) in
-    rw (e, ← c.pcd_name-pcd.ensures, le-ltb _ _ c.if-pcd-gt0.false, ← c.is_wide.ensures, c.if-is_wide.false)
+    rw (e, ← c.pcd_name-pcd.ensures, le-ltb 0 c.pcd_name-pcd.result (omega (arith, c.if-pcd-gt0.false)), ← c.is_wide.ensures, c.if-is_wide.false)
     (c.or_bare.ensures ∙ rw (c.spelled_word-spelled.ensures, sub-zero))
