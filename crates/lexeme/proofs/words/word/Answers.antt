@@ -21,7 +21,8 @@ pub returns-then-is_wide : goal.returns-then-is_wide
 unfolding word_of
 returns-then-is_wide c =
     let e : span Word c.args.s.now ≡ c.run_end-end.result.0 = sym (c.run_end-end.ensures ∙ zero-add _) in
-    rw (e, ← c.pcd_name-pcd.ensures, le-ltb 0 c.pcd_name-pcd.result (omega (arith, c.if-pcd-gt0.false)), ← c.is_wide.ensures, c.if-is_wide.true) c.string.ensures
+    rw (e, ← c.pcd_name-pcd.ensures, le-ltb 0 c.pcd_name-pcd.result (omega (arith, c.if-pcd-gt0.false)), ← c.is_wide.ensures, c.if-is_wide.true)
+    c.string.ensures
 
 pub slice_bounds-spelled_word-end : goal.slice_bounds-spelled_word-end
 slice_bounds-spelled_word-end c = omega (arith, c.run_end-end.ensures, span_fits Word c.args.s.now)
