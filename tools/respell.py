@@ -47,7 +47,9 @@ APART = {
         ("word-start", "word_start"),
     )
 } | {"well-formed": "is_well_formed"}
-# The same in these files alone; elsewhere the name is a constructor.
+# Constructors that are declared several to a line, and an operator.
+MORE = {name: name.replace("-", "_") for name in ("shift-left", "shift-right", "followed-by", "◌followed-by◌")}
+# The same as above in these files alone; elsewhere the name is a constructor.
 APART_IN = {
     "crates/blocks/proofs/%s.antt" % name: {"at-end": "at_end_lem"} for name in ("StrayLine", "Refused", "SelectionFaults")
 }
@@ -87,7 +89,7 @@ def table():
                 made.add(name)
             else:
                 names.add(name)
-    turned = {name: respelled(name) for name in names - made} | APART
+    turned = {name: respelled(name) for name in names - made} | APART | MORE
     return {old: new for old, new in turned.items() if old != new}, made
 
 
@@ -125,7 +127,7 @@ def turn_comment(text, names):
 
 def other_names(text):
     """The names that a file gives to imported words by `as`."""
-    return {name: respelled(name) for name in re.findall(r" as ([a-z]\w*[A-Z]\w*)(?=[,}])", text)}
+    return {name: respelled(name) for name in re.findall(r" as ([a-z][\w-]*)(?=[,}])", text)}
 
 
 def kit_names(text):
