@@ -123,6 +123,15 @@ def cited():
             yield from re.findall(r"\bR\d+\b", " ".join(comments))
 
 
+def declared():
+    """The names of definitions and lemmas."""
+    found = set()
+    for part in "specs", "proofs":
+        for path in glob.glob(os.path.join(ROOT, "crates", "*", part, "*.antt")):
+            found |= set(re.findall(r"^ *(?:(?:abbrev|unfoldable|pub) )*(\w+) :", read(os.path.relpath(path, ROOT)), re.M))
+    return found
+
+
 def checks():
     text, found = read(DECISIONS), list(entries())
     readings = {number: entry for number, _, entry in found if number.startswith("R")}
@@ -135,7 +144,7 @@ def checks():
     yield "files that are named and not there", sorted(path for path in paths if not os.path.exists(os.path.join(ROOT, path))), []
     named = set(re.findall(r"`([a-z0-9]+_[a-z0-9]+_[a-z0-9_]+)`", text))
     edits = {os.path.basename(path)[: -len(".edit")] for path in glob.glob(os.path.join(ROOT, "crates/*/must-fail/*.edit"))}
-    yield "edits that are named and not there", sorted(named - edits), []
+    yield "edits, definitions and lemmas that are named and not there", sorted(named - edits - declared()), []
     yield "readings that no vector cites, and those that are cited and not there", readings.keys() ^ set(cited()), set()
     for reading, entry in readings.items():
         (heading, *answers), rows = table(reading, entry)
