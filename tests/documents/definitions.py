@@ -19,8 +19,10 @@ Function = collections.namedtuple("Function", "name path public exported require
 WORD = re.compile(r"[^\s(){};,.]+")
 IMPORT = re.compile(r"^(?:pub |ghost )?use (\S+?)\.\{(.*)\};?$", re.M)
 DECLARED = re.compile(r"\s*(?:unfoldable |abbrev )?(?:pub )?(?:(?:record|data) (\S+)|(\S+) :)")
-HEADER = re.compile(r'^(pub )?(extern "C" )?fn (\w+)(.*?)\n\{', re.M | re.S)
-CLAUSE = re.compile(r"^    (requires|ensures) (?:\w+ )?\{ (.*) \}$", re.M)
+# a function with a contract: the brace of its body stands on a line of its own, as far in as its name
+HEADER = re.compile(r'^( *)(pub )?(extern "C" )?fn (\w+)((?:[^\n]*(?<!\{)\n)+?)\1\{$', re.M)
+CLAUSE = re.compile(r"^ +(requires|ensures) (?:\w+ )?\{ (.*) \}$", re.M)
+TYPE = re.compile(r"^impl(?:<[^>]*>)? (?:[\w<>]+ for )?(\w+)", re.M)
 
 
 def paths(pattern):
@@ -112,10 +114,13 @@ def functions():
     for path in paths("crates/*/src/**/*.rt"):
         text = read(path)
         crate, modules = path.split("/")[1], path[: -len(".rt")].split("/")[3:]
-        for public, exported, name, rest in HEADER.findall(text):
+        for found in HEADER.finditer(text):
+            indent, public, exported, name, rest = found.groups()
             clauses = CLAUSE.findall(rest)
+            # a method is named after its type
+            of_type = TYPE.findall(text[: found.start()])[-1:] if indent else []
             yield Function(
-                "::".join([crate] + [module for module in modules if module != "lib"] + [name]),
+                "::".join([crate] + [module for module in modules if module != "lib"] + of_type + [name]),
                 path,
                 bool(public),
                 bool(exported),

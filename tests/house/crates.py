@@ -42,7 +42,7 @@ def roots(code):
     uses = re.findall(r"^ *(?:pub )?use (\w+)([^;]*);", code, re.M)
     brought = {name for _, rest in uses for name in re.findall(r"\w+", rest)} | set(re.findall(r"\bmod (\w+)", code))
     paths = re.sub(r"^ *(?:pub |ghost )?use [^;]*;", "", code, flags=re.M)
-    return {root for root, _ in uses} | set(re.findall(r"(?<![:\w])(\w+)::", paths)) - brought
+    return {root for root, _ in uses} | set(re.findall(r"(?<![:\w])(\w+)::(?!<)", paths)) - brought
 
 
 def named(crate, crates):

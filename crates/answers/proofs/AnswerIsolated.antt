@@ -1,18 +1,18 @@
 -- What an answer depends on (document 01, "For demand 3"): of the table only the records under the names in the expression, and not their
 -- places in the table, except for the place of an answered string. The tree that the tokens derive does not depend on the table, its leaves
 -- are tokens of the expression, and no form depends on the places of strings. Assumes nothing.
+use Rattle.std.specs.Prelude.{Err, None, Ok, Option, Result, Some}
 use Prim.Native.Nat.{ℕ}
 use mathlib.Core.Path.{◌≡◌, refl, sym, ap, ap₂, ◌∙◌}
 use mathlib.Core.List.{List, Memᴰ}
 use lib.ListN.{length}
-use Rattle.units.specs.Refusals.{BAR_OUTSIDE, PCD_MISSING, KINDS_UNSUITED}
 use Rattle.units.specs.declared.Dialect.{Dialect}
-use Rattle.units.specs.declared.Where.{Where}
-use Rattle.units.specs.declared.Where.TheVariants.{Nowhere, At}
+use Rattle.units.specs.declared.Offset.{Offset}
+use Rattle.units.specs.declared.Reason.{Reason}
+use Rattle.units.specs.declared.Reason.TheVariants.{BarOutside, KindsUnsuited, PcdMissing}
+use Rattle.units.specs.declared.Refusal.{Refusal}
 use Rattle.lookup.specs.Setting.{record_under}
 use Rattle.token.specs.Tokens.{Token, reading}
-use Rattle.token.specs.declared.scan.Ending.{Ending}
-use Rattle.token.specs.declared.scan.Ending.TheVariants.{Complete, Refused}
 use Rattle.grammar.specs.Grammar.{Tree, expression, Derives}
 use Rattle.grammar.specs.Fold.{fold}
 use Rattle.grammar.specs.Parse.{Outcome, refused as underived, accepted, parse}
@@ -47,20 +47,21 @@ answer_value_erased (number x) n = refl
 answer_value_erased (text k p s) n = refl
 answer_value_erased (fault f) n = refl
 
-or_erased : (w : Where) (r : ℕ) (x y : Evaluation) → erase_places_in x ≡ y → erase_places_in (refused_or w r x) ≡ refused_or w r y
-or_erased Nowhere r x y h = h
-or_erased (At o) r x y h = refl
+or_erased : (w : Option Offset) (r : Reason) (x y : Evaluation) → erase_places_in x ≡ y → erase_places_in (refused_or w r x) ≡ refused_or w r y
+or_erased None r x y h = h
+or_erased (Some o) r x y h = refl
 
-check_then_answer_erased : (bar pcd : Where) (a : Attributes) → erase_places_in (check_then_answer bar pcd a) ≡ check_then_answer bar pcd (erase_places_of a)
+check_then_answer_erased : (bar pcd : Option Offset) (a : Attributes)
+    → erase_places_in (check_then_answer bar pcd a) ≡ check_then_answer bar pcd (erase_places_of a)
 check_then_answer_erased bar pcd a =
-    or_erased bar BAR_OUTSIDE _ _ (or_erased pcd PCD_MISSING _ _
-    (or_erased (clash_in a.kind) KINDS_UNSUITED _ _ (answer_value_erased a.value a.count)))
+    or_erased bar BarOutside _ _ (or_erased pcd PcdMissing _ _
+    (or_erased (clash_in a.kind) KindsUnsuited _ _ (answer_value_erased a.value a.count)))
 
 -- two attributes are the same except for places
 abbrev Same : Attributes → Attributes → Type 0
 Same a b = erase_places_of a ≡ erase_places_of b
 
-check_then_answer_same : (bar pcd : Where) (a b : Attributes) → Same a b
+check_then_answer_same : (bar pcd : Option Offset) (a b : Attributes) → Same a b
     → erase_places_in (check_then_answer bar pcd a) ≡ erase_places_in (check_then_answer bar pcd b)
 check_then_answer_same bar pcd a b h =
     check_then_answer_erased bar pcd a ∙ ap (check_then_answer bar pcd) h ∙ sym (check_then_answer_erased bar pcd b)
@@ -91,7 +92,7 @@ module _ (e t₁ t₂ : List ℕ) (δ : Dialect) where
     tree_same : (s : Tree Token) → Derives code_of expression read s → Same (fold (meaning m₁) s) (fold (meaning m₂) s)
     tree_same s d = related (meaning m₁) (meaning m₂) Same code_of preserves d agree
 
-    by_outcome : (start : ℕ → ℕ) (bar pcd : Where) (o : Outcome (Tree Token)) → parse code_of trees (token_in read) (length read) ≡ o
+    by_outcome : (start : ℕ → ℕ) (bar pcd : Option Offset) (o : Outcome (Tree Token)) → parse code_of trees (token_in read) (length read) ≡ o
         → erase_places_in (answer_tokens start bar pcd (map_outcome (fold (meaning m₁)) o))
         ≡ erase_places_in (answer_tokens start bar pcd (map_outcome (fold (meaning m₂)) o))
     by_outcome start bar pcd (underived i) p = refl
@@ -109,6 +110,6 @@ module _ (e t₁ t₂ : List ℕ) (δ : Dialect) where
   unfolding evaluation_in
   isolated same = by (reading e δ).ending
     where
-      by : (y : Ending) → erase_places_in (ended y (λ end. of_tokens m₁ read end δ)) ≡ erase_places_in (ended y (λ end. of_tokens m₂ read end δ))
-      by (Refused r) = refl
-      by (Complete end) = tokens_isolated same end.0
+      by : (y : Result Offset Refusal) → erase_places_in (ended y (λ end. of_tokens m₁ read end δ)) ≡ erase_places_in (ended y (λ end. of_tokens m₂ read end δ))
+      by (Err r) = refl
+      by (Ok end) = tokens_isolated same end.0

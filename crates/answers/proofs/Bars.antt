@@ -1,23 +1,22 @@
 -- The rule on bars decides refusal 8 and nothing else (document 02, order 1). Assumes nothing.
+use Rattle.std.specs.Prelude.{Err, None, Ok, Option, Result, Some}
 use Prim.Native.Nat.{ℕ, zero, suc}
 use native.Mathlib.Omega.{arith}
 use mathlib.Core.Path.{◌≡◌, refl, ap₂, fun_ext}
 use mathlib.Core.Bool.{Bool, false, false≢true}
 use mathlib.Core.List.{List, [], ◌∷◌}
 use lib.ListN.{length, get_or}
-use Rattle.units.specs.Refusals.{BAR_OUTSIDE}
 use Rattle.units.specs.Dialects.{by_itself, in_directives}
 use Rattle.units.specs.declared.Dialect.{Dialect}
 use Rattle.units.specs.declared.Offset.{Offset}
-use Rattle.units.specs.declared.Where.{Where}
-use Rattle.units.specs.declared.Where.TheVariants.{Nowhere, At}
+use Rattle.units.specs.Refusals.{BAR_OUTSIDE}
+use Rattle.units.specs.declared.Reason.TheVariants.{BarOutside}
+use Rattle.units.specs.declared.Refusal.{Refusal}
 use Rattle.text.specs.Bytes.{class_of}
 use Rattle.text.specs.declared.bytes.Class.{Class}
-use Rattle.text.specs.declared.bytes.Class.TheVariants.{Initial, Digit, Quote, Blank, Operator, Dollar, Comment, Other}
+use Rattle.text.specs.declared.bytes.Class.TheVariants.{Initial}
 use Rattle.lexeme.specs.Lexeme.{word_of, lexeme_by, lexeme}
 use Rattle.token.specs.Tokens.{Token, first_place, read_from, read_byte, reading}
-use Rattle.token.specs.declared.scan.Ending.{Ending}
-use Rattle.token.specs.declared.scan.Ending.TheVariants.{Complete, Refused}
 use Rattle.grammar.specs.Grammar.{Tree, expression, Derives}
 use Rattle.grammar.specs.Bars.{bare_bars}
 use Rattle.grammar.specs.Fold.{fold}
@@ -38,13 +37,7 @@ same_lexeme after s δ = by (class_of (get_or s 0 0))
   where
     by : (c : Class) → lexeme_by c after s (in_directives δ) ≡ lexeme_by c after s δ
     by Initial = refl
-    by Digit = refl
-    by Quote = refl
-    by Operator = refl
-    by Dollar = refl
-    by Other = refl
-    by Blank = refl
-    by Comment = refl
+    by _ = refl
 
 same_from : (at room inside : ℕ) (after : Bool) (s : List ℕ) (δ : Dialect)
     → read_from at room inside after s (in_directives δ) ≡ read_from at room inside after s δ
@@ -69,18 +62,19 @@ module _ (m : Memory) (δ : Dialect) where
   abbrev Same : Evaluation → Evaluation → Type 0
   Same x y = (refusal_number x ≡ BAR_OUTSIDE → ⊥) → y ≡ x
 
-  same_answer : (start : ℕ → ℕ) (bar pcd : Where) (o : Outcome Attributes) → Same (answer_tokens start bar pcd o) (answer_tokens start Nowhere pcd o)
+  same_answer : (start : ℕ → ℕ) (bar pcd : Option Offset) (o : Outcome Attributes) → Same (answer_tokens start bar pcd o) (answer_tokens start None pcd o)
   same_answer start bar pcd (underived i) h = refl
-  same_answer start Nowhere pcd (accepted a) h = refl
-  same_answer start (At o) pcd (accepted a) h = absurd (h refl)
+  same_answer start None pcd (accepted a) h = refl
+  same_answer start (Some o) pcd (accepted a) h = absurd (h refl)
 
   same_tokens : (ts : List Token) (end : ℕ) → Same (of_tokens m ts end δ) (of_tokens m ts end (in_directives δ))
   unfolding of_tokens
   same_tokens ts end = same_answer (start_in ts end) (bar_at ts δ) (pcd_at m ts) (parse code_of (meaning m) (token_in ts) (length ts))
 
-  same_ended : (x : Ending) (ts : List Token) → Same (ended x (λ end. of_tokens m ts end δ)) (ended x (λ end. of_tokens m ts end (in_directives δ)))
-  same_ended (Refused r) ts h = refl
-  same_ended (Complete end) ts h = same_tokens ts end.0 h
+  same_ended : (x : Result Offset Refusal) (ts : List Token)
+      → Same (ended x (λ end. of_tokens m ts end δ)) (ended x (λ end. of_tokens m ts end (in_directives δ)))
+  same_ended (Err r) ts h = refl
+  same_ended (Ok end) ts h = same_tokens ts end.0 h
 
   pub bars_only : (refusal_number (evaluation_in m δ) ≡ BAR_OUTSIDE → ⊥) → evaluation_in m (in_directives δ) ≡ evaluation_in m δ
   unfolding evaluation_in
@@ -89,7 +83,7 @@ module _ (m : Memory) (δ : Dialect) where
       (same_ended (reading m.expression δ).ending (reading m.expression δ).tokens h)
 
 -- an expression by itself is refused with 8, at the leftmost bar outside parentheses, exactly if its derivation has one
-module _ (old : Bool) (m : Memory) (end : Offset) (complete : (reading m.expression (by_itself old)).ending ≡ Complete end) where
+module _ (old : Bool) (m : Memory) (end : Offset) (complete : (reading m.expression (by_itself old)).ending ≡ Ok end) where
   abbrev read : List Token
   read = (reading m.expression (by_itself old)).tokens
 
@@ -98,7 +92,7 @@ module _ (old : Bool) (m : Memory) (end : Offset) (complete : (reading m.express
         ≡ check_then_answer (first_place ks) (pcd_at m read) (fold (meaning m) s)
     answered ks e = rw (← e) (derived m (by_itself old) end complete s d)
 
-    pub eight_at : (k : Token) (ks : List Token) → bare_bars code_of d ≡ k ∷ ks → evaluation_in m (by_itself old) ≡ refused_at BAR_OUTSIDE k.start
+    pub eight_at : (k : Token) (ks : List Token) → bare_bars code_of d ≡ k ∷ ks → evaluation_in m (by_itself old) ≡ refused_at BarOutside k.start
     eight_at k ks e = answered (k ∷ ks) e
 
     pub eight_without : bare_bars code_of d ≡ [] → refusal_number (evaluation_in m (by_itself old)) ≡ BAR_OUTSIDE → ⊥

@@ -1,15 +1,16 @@
 -- The place that an expression carries for refusal 10 is that of the first operator to blame: of those whose operands are of wrong kinds while
 -- none inside its operands is, the leftmost (document 02, order 3). Assumes nothing.
+use Rattle.std.specs.Prelude.{None, Ok}
 use Prim.Native.Nat.{ℕ}
 use mathlib.Core.Path.{◌≡◌, refl, sym, ◌∙◌}
 use mathlib.Core.Bool.{Bool, true, false, ◌&&◌, false≢true}
-use Rattle.units.specs.Refusals.{BAR_OUTSIDE, PCD_MISSING, KINDS_UNSUITED}
 use Rattle.units.specs.declared.Dialect.{Dialect}
 use Rattle.units.specs.declared.Offset.{Offset}
-use Rattle.units.specs.declared.Where.TheVariants.{Nowhere}
+use Rattle.units.specs.declared.Reason.TheVariants.{BarOutside, KindsUnsuited, PcdMissing}
 use Rattle.text.specs.Bytes.{pick}
+use Rattle.lookup.specs.declared.TextKind.{TextKind}
+use Rattle.lookup.specs.declared.TextKind.TheVariants.{String as TextString, Wide as TextWide}
 use Rattle.token.specs.Tokens.{Token, first_place, reading}
-use Rattle.token.specs.declared.scan.Ending.TheVariants.{Complete}
 use Rattle.grammar.specs.Grammar.{Tree, expression, Derives}
 use Rattle.grammar.specs.Bars.{bare_bars}
 use Rattle.grammar.specs.Fold.{fold}
@@ -22,8 +23,6 @@ use Rattle.value.specs.Values.{Value, number, text, fault, kind_of, primary_valu
 use Rattle.value.specs.declared.Kind.{Kind}
 use Rattle.value.specs.declared.Kind.TheVariants.{Number, String, Wide, Clash}
 use Rattle.value.proofs.Clashes.{no_clash, a_clash}
-use Rattle.lookup.specs.declared.TextKind.{TextKind}
-use Rattle.lookup.specs.declared.TextKind.TheVariants.{String as TextString, Wide as TextWide}
 use Rattle.soundness.proofs.PlacesWithin.{Faultless, primary_faultless}
 use Rattle.expression.specs.Meaning.{code_of, meaning}
 use Rattle.leftmost.specs.Leftmost.{pcd_at}
@@ -87,17 +86,15 @@ clash_blamed m s = by (fold (meaning m) s).kind (blamed (carries m) s)
   where
     by : (k : Kind) → Leads (λ t. t.start) (clashes k) (to_blame (meaning m) wrong_kinds s) (carried k)
         → clash_in k ≡ first_place (to_blame (meaning m) wrong_kinds s)
-    by Number l = rw (l.none refl)
-    by String l = rw (l.none refl)
-    by Wide l = rw (l.none refl)
     by (Clash p) l = let f = l.first refl in rw (f.2, f.3)
+    by _ l = rw (l.none refl)
 
 -- so the answer of a tree has the places that the order names: of a bar, of a PCD, of an operator to blame
-pub tree_decides : (m : Memory) (δ : Dialect) (end : Offset) → (reading m.expression δ).ending ≡ Complete end
+pub tree_decides : (m : Memory) (δ : Dialect) (end : Offset) → (reading m.expression δ).ending ≡ Ok end
     → (s : Tree Token) (d : Derives code_of expression (reading m.expression δ).tokens s)
     → evaluation_in m δ
-    ≡ refused_or (pick δ.bars Nowhere (first_place (bare_bars code_of d))) BAR_OUTSIDE
-    (refused_or (pcd_at m (reading m.expression δ).tokens) PCD_MISSING
-    (refused_or (first_place (to_blame (meaning m) wrong_kinds s)) KINDS_UNSUITED
+    ≡ refused_or (pick δ.bars None (first_place (bare_bars code_of d))) BarOutside
+    (refused_or (pcd_at m (reading m.expression δ).tokens) PcdMissing
+    (refused_or (first_place (to_blame (meaning m) wrong_kinds s)) KindsUnsuited
     (answer_value (fold (meaning m) s).value (fold (meaning m) s).count)))
 tree_decides m δ end h s d = derived m δ end h s d ∙ rw (clash_blamed m s)

@@ -1,5 +1,6 @@
 -- A fault of evaluation, its number and its place, is that of the operator that meets one first in the order of evaluation, if the kinds do not
 -- clash (document 02, order 3, refusals 11 and 12). Assumes nothing.
+use Rattle.std.specs.Prelude.{Err, Ok, Result}
 use Prim.Native.Nat.{ℕ}
 use mathlib.Core.Path.{◌≡◌, refl, sym, ap, ◌∙◌}
 use mathlib.Core.Bool.{Bool, true, false, false≢true}
@@ -7,17 +8,16 @@ use mathlib.Core.List.{List, [], ◌∷◌}
 use lib.Dec.{eqb}
 use borrow.Author.Tests.{not-true, not-false}
 use Rattle.units.specs.declared.Fault.{Fault}
+use Rattle.units.specs.declared.Reason.{Reason}
 use Rattle.text.proofs.Laws.{pick_case}
 use Rattle.token.specs.Tokens.{Token}
+use Rattle.arithmetic.specs.Operators.{unary_of, binary_of}
 use Rattle.grammar.specs.Grammar.{Tree}
 use Rattle.grammar.specs.Fold.{fold}
 use Rattle.blame.specs.Nodes.{root}
 use Rattle.blame.specs.Applied.{faulty_nodes}
 use Rattle.blame.proofs.Carried.{CarriesFault}
 use Rattle.blame.proofs.FirstFault.{met}
-use Rattle.arithmetic.specs.Operators.{unary_of, binary_of}
-use Rattle.arithmetic.specs.declared.Outcome.{Outcome}
-use Rattle.arithmetic.specs.declared.Outcome.TheVariants.{Number as Result, Refused}
 use Rattle.value.specs.Places.{Memory}
 use Rattle.value.specs.Kinds.{of_text, is_number, compares, suits, clashes, unary_kind}
 use Rattle.value.specs.Values.{Value, number, text, fault, HasKind, primary_value, result_of, unary_value, skips, both_values, binary_value, choice_value}
@@ -50,9 +50,9 @@ passes (text k p s) h = refl
 passes (fault f) h = absurd h
 
 -- operators
-result_at : (at : ℕ) (r : Outcome) → FailsAt at (result_of at r)
-result_at at (Result x) h = absurd (false≢true h)
-result_at at (Refused n) h = refl
+result_at : (at : ℕ) (r : Result ℕ Reason) → FailsAt at (result_of at r)
+result_at at (Ok x) h = absurd (false≢true h)
+result_at at (Err n) h = refl
 
 unary_as : (o at : ℕ) (v : Value) → is_fault v ≡ true → FailsAs v (unary_value o at v)
 unfolding unary_value

@@ -1,17 +1,17 @@
 -- The answer to an expression has line 0, also if it is a refusal. Assumes nothing.
-use Prim.Native.Nat.{ℕ, ◌-◌}
+use Rattle.std.specs.Prelude.{Err, None, Ok, Option, Result, Some}
+use Prim.Native.Nat.{ℕ}
 use mathlib.Core.Path.{◌≡◌, refl}
 use mathlib.Core.List.{List}
 use lib.ListN.{length}
 use Rattle.units.specs.declared.Dialect.{Dialect}
-use Rattle.units.specs.declared.Where.{Where}
-use Rattle.units.specs.declared.Where.TheVariants.{Nowhere, At}
+use Rattle.units.specs.declared.Offset.{Offset}
+use Rattle.units.specs.declared.Reason.{Reason}
+use Rattle.units.specs.declared.Reason.TheVariants.{BarOutside, KindsUnsuited, PcdMissing}
+use Rattle.units.specs.declared.Refusal.{Refusal}
 use Rattle.text.proofs.Laws.{pick_case}
 use Rattle.settings.specs.Table.{well_formed}
-use Rattle.codes.specs.declared.Scanned.TheVariants.{Refused}
 use Rattle.token.specs.Tokens.{reading}
-use Rattle.token.specs.declared.scan.Ending.{Ending}
-use Rattle.token.specs.declared.scan.Ending.TheVariants.{Complete, Refused}
 use Rattle.token.proofs.Endings.{every_ending}
 use Rattle.grammar.specs.Parse.{Outcome, refused as underived, accepted, parse}
 use Rattle.value.specs.Places.{Memory}
@@ -23,9 +23,9 @@ use Rattle.evaluation.specs.Evaluation.{Evaluation, line_of, answer_value, clash
 use Rattle.evaluation.specs.Evaluation.{evaluation_in, evaluation}
 
 -- if reading ended with a refusal, it has line 0
-abbrev EndsSo : Ending → Type 0
-EndsSo (Refused r) = r.line.0 ≡ 0
-EndsSo (Complete end) = Unit
+abbrev EndsSo : Result Offset Refusal → Type 0
+EndsSo (Err r) = r.line.0 ≡ 0
+EndsSo (Ok end) = Unit
 
 reads_so : (e : List ℕ) (δ : Dialect) → EndsSo (reading e δ).ending
 reads_so e δ =
@@ -39,17 +39,18 @@ answer_value_so (number x) n = refl
 answer_value_so (text k p s) n = refl
 answer_value_so (fault f) n = refl
 
-or_so : (w : Where) (r : ℕ) (x : Evaluation) → LineZero x → LineZero (refused_or w r x)
-or_so Nowhere r x h = h
-or_so (At o) r x h = refl
+or_so : (w : Option Offset) (r : Reason) (x : Evaluation) → LineZero x → LineZero (refused_or w r x)
+or_so None r x h = h
+or_so (Some o) r x h = refl
 
-answer_tokens_so : (start : ℕ → ℕ) (bar pcd : Where) (o : Outcome Attributes) → LineZero (answer_tokens start bar pcd o)
+answer_tokens_so : (start : ℕ → ℕ) (bar pcd : Option Offset) (o : Outcome Attributes) → LineZero (answer_tokens start bar pcd o)
 answer_tokens_so start bar pcd (underived i) = refl
-answer_tokens_so start bar pcd (accepted a) = or_so bar 8 _ (or_so pcd 9 _ (or_so (clash_in a.kind) 10 _ (answer_value_so a.value a.count)))
+answer_tokens_so start bar pcd (accepted a) =
+    or_so bar BarOutside _ (or_so pcd PcdMissing _ (or_so (clash_in a.kind) KindsUnsuited _ (answer_value_so a.value a.count)))
 
-ended_so : (x : Ending) (y : ℕ → Evaluation) → EndsSo x → ((end : ℕ) → LineZero (y end)) → LineZero (ended x y)
-ended_so (Refused r) y h k = h
-ended_so (Complete end) y h k = k end.0
+ended_so : (x : Result Offset Refusal) (y : ℕ → Evaluation) → EndsSo x → ((end : ℕ) → LineZero (y end)) → LineZero (ended x y)
+ended_so (Err r) y h k = h
+ended_so (Ok end) y h k = k end.0
 
 pub without_line : (m : Memory) (δ : Dialect) → line_of (evaluation m δ) ≡ 0
 unfolding evaluation evaluation_in of_tokens

@@ -1,9 +1,9 @@
 -- The place of a missing PCD is that of the leftmost: of the one before which none is missing (document 02, order 3, refusal 9). Assumes nothing.
+use Rattle.std.specs.Prelude.{None}
 use mathlib.Core.Path.{◌≡◌, refl}
 use mathlib.Core.Bool.{true, false}
 use mathlib.Core.List.{List, [], ◌∷◌, ◌++◌, Memᴰ}
 use Rattle.units.specs.Leftmost.{there}
-use Rattle.units.specs.declared.Where.TheVariants.{Nowhere}
 use Rattle.token.specs.Tokens.{Token}
 use Rattle.value.specs.Places.{Memory}
 use Rattle.value.specs.Values.{is_missing_pcd, missing_pcds}
@@ -19,7 +19,7 @@ module _ (m : Memory) where
   nine_at [] k vs none h = rw h
   nine_at (u ∷ us) k vs none h = rw (none u (Memᴰ.head refl)) (nine_at us k vs (λ j i. none j (Memᴰ.tail i)) h)
 
-  pub nine_nowhere : (ts : List Token) → NoneMissing ts → pcd_at m ts ≡ Nowhere
+  pub nine_nowhere : (ts : List Token) → NoneMissing ts → pcd_at m ts ≡ None
   unfolding missing_pcds
   nine_nowhere [] none = refl
   nine_nowhere (t ∷ ts) none = rw (none t (Memᴰ.head refl)) (nine_nowhere ts (λ j i. none j (Memᴰ.tail i)))

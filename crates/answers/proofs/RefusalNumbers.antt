@@ -1,34 +1,34 @@
 -- The numbers that an expression can be refused with where no bar is refused: reading has 2 to 6, and then come 7 and 9 to 12. So 8 is the
 -- number of a bar alone. Assumes nothing.
-use Prim.Native.Nat.{ℕ, ◌+◌, ◌-◌}
+use Rattle.std.specs.Prelude.{Err, None, Ok, Option, Result, Some}
+use Prim.Native.Nat.{ℕ, ◌+◌}
 use mathlib.Core.Path.{◌≡◌, refl}
 use mathlib.Core.Logic.{◌⊎◌, inl, inr}
 use mathlib.Core.Bool.{Bool, true, false, not, ◌&&◌}
 use mathlib.Core.List.{List, [], ◌∷◌}
 use lib.ListN.{length, get_or, take, drop}
 use lib.Dec.{eqb, ltb, leb}
-use Rattle.units.specs.Refusals.{EXPRESSION_LONG, TOKEN_BAD, LITERAL_LARGE, BAR_OUTSIDE, PCD_MISSING, KINDS_UNSUITED, DIVISOR_ZERO}
+use Rattle.units.specs.Refusals.{reason_number, EXPRESSION_LONG, BAR_OUTSIDE, DIVISOR_ZERO}
 use Rattle.units.specs.Dialects.{in_directives}
 use Rattle.units.specs.declared.Dialect.{Dialect}
-use Rattle.units.specs.declared.Where.{Where}
-use Rattle.units.specs.declared.Where.TheVariants.{Nowhere, At}
+use Rattle.units.specs.declared.Offset.{Offset}
+use Rattle.units.specs.declared.Reason.{Reason}
+use Rattle.units.specs.declared.Reason.TheVariants.{KindsUnsuited, LiteralLarge, PcdMissing, TokenBad}
+use Rattle.units.specs.declared.Refusal.{Refusal}
 use Rattle.text.specs.Bytes.{byte, class_of}
 use Rattle.text.specs.Runs.{span, string_set}
 use Rattle.text.specs.Order.{equal}
 use Rattle.text.specs.Names.{macro_name, pcd_name}
 use Rattle.text.specs.declared.bytes.Class.{Class}
-use Rattle.text.specs.declared.bytes.Class.TheVariants.{Initial, Digit, Quote, Blank, Operator, Dollar, Comment, Other}
+use Rattle.text.specs.declared.bytes.Class.TheVariants.{Initial, Digit, Quote, Operator, Dollar}
 use Rattle.text.specs.declared.runs.Set.TheVariants.{Word}
 use Rattle.text.proofs.Laws.{pick_case}
 use Rattle.codes.specs.Spellings.{Spelling, words, symbols}
 use Rattle.codes.specs.Codes.{STRING, WIDE}
+use Rattle.codes.specs.declared.Lexeme.{Lexeme}
 use Rattle.literal.specs.Literal.{literal, is_decimal, is_hexadecimal, hexadecimal_of, number_of}
 use Rattle.lexeme.specs.Lexeme.{string_of, string_at, spelled, is_wide, or_bare, word_of, macro_of, begins, leading, lexeme_by, lexeme}
-use Rattle.codes.specs.declared.Scanned.{Scanned}
-use Rattle.codes.specs.declared.Scanned.TheVariants.{Found, Refused as Bad}
 use Rattle.token.specs.Tokens.{Token, reading}
-use Rattle.token.specs.declared.scan.Ending.{Ending}
-use Rattle.token.specs.declared.scan.Ending.TheVariants.{Complete, Refused}
 use Rattle.token.proofs.Endings.{every_ending}
 use Rattle.grammar.specs.Parse.{Outcome, refused as underived, accepted, parse}
 use Rattle.grammar.proofs.Decided.{evaluates}
@@ -37,7 +37,7 @@ use Rattle.value.specs.Values.{Value, number, text, fault, RuntimeRefusal, HasKi
 use Rattle.value.specs.Kinds.{clashes}
 use Rattle.value.specs.Attributes.{Attributes}
 use Rattle.value.specs.declared.Kind.{Kind}
-use Rattle.value.specs.declared.Kind.TheVariants.{Number, String, Wide, Clash}
+use Rattle.value.specs.declared.Kind.TheVariants.{Clash}
 use Rattle.soundness.proofs.KindSound.{KindSound}
 use Rattle.expression.specs.Meaning.{code_of, meaning}
 use Rattle.leftmost.specs.Leftmost.{pcd_at}
@@ -50,9 +50,9 @@ abbrev pub from_expression : ℕ → Bool
 from_expression r = leb EXPRESSION_LONG r && (leb r DIVISOR_ZERO && not (eqb r BAR_OUTSIDE))
 
 -- a token is refused with 3 or 4
-abbrev pub InLexeme : Scanned → Type 0
-InLexeme (Found f) = Unit
-InLexeme (Bad r) = (r ≡ TOKEN_BAD) ⊎ (r ≡ LITERAL_LARGE)
+abbrev pub InLexeme : Result Lexeme Reason → Type 0
+InLexeme (Ok f) = Unit
+InLexeme (Err r) = (r ≡ TokenBad) ⊎ (r ≡ LiteralLarge)
 
 in_literal : (n v : ℕ) → InLexeme (literal n v)
 unfolding literal
@@ -73,10 +73,10 @@ unfolding spelled
 in_spelled [] w = inl refl
 in_spelled (x ∷ xs) w = pick_case InLexeme (equal w x.text) (λ _. tt) (λ _. in_spelled xs w)
 
-in_bare : (bare : Bool) (n : ℕ) (x : Scanned) → InLexeme x → InLexeme (or_bare bare n x)
-in_bare bare n (Found f) h = tt
-in_bare true n (Bad r) h = tt
-in_bare false n (Bad r) h = h
+in_bare : (bare : Bool) (n : ℕ) (x : Result Lexeme Reason) → InLexeme x → InLexeme (or_bare bare n x)
+in_bare bare n (Ok f) h = tt
+in_bare true n (Err r) h = tt
+in_bare false n (Err r) h = h
 
 in_word : (n : ℕ) (after : Bool) (s : List ℕ) (δ : Dialect) → InLexeme (word_of n after s δ)
 unfolding word_of
@@ -103,16 +103,14 @@ in_lexeme after s δ = by (class_of (get_or s 0 0))
     by Quote = in_string STRING 0 s
     by Operator = in_leading symbols s
     by Dollar = in_macro (macro_name (drop 2 s)) s
-    by Other = inl refl
-    by Blank = inl refl
-    by Comment = inl refl
+    by _ = inl refl
 
 -- reading
-abbrev InEnding : Ending → Type 0
-InEnding (Refused r) = from_expression r.number ≡ true
-InEnding (Complete end) = Unit
+abbrev InEnding : Result Offset Refusal → Type 0
+InEnding (Err r) = from_expression (reason_number r.reason) ≡ true
+InEnding (Ok end) = Unit
 
-in_bad : (r : ℕ) → (r ≡ TOKEN_BAD) ⊎ (r ≡ LITERAL_LARGE) → from_expression r ≡ true
+in_bad : (r : Reason) → (r ≡ TokenBad) ⊎ (r ≡ LiteralLarge) → from_expression (reason_number r) ≡ true
 in_bad r (inl h) = rw h
 in_bad r (inr h) = rw h
 
@@ -124,46 +122,44 @@ in_reading e δ =
 -- an expression
 abbrev pub InAnswer : Evaluation → Type 0
 InAnswer (value v n) = Unit
-InAnswer (refused r) = from_expression r.number ≡ true
+InAnswer (refused r) = from_expression (reason_number r.reason) ≡ true
 
-runtime : (n : ℕ) → RuntimeRefusal n → from_expression n ≡ true
+runtime : (n : Reason) → RuntimeRefusal n → from_expression (reason_number n) ≡ true
 runtime n (inl h) = rw h
 runtime n (inr h) = rw h
 
 in_answer_value : (k : Kind) (v : Value) (n : ℕ) → HasKind k v → InAnswer (answer_value v n)
 in_answer_value k (number x) n h = tt
 in_answer_value k (text j p s) n h = tt
-in_answer_value k (fault f) n h = runtime f.number h
+in_answer_value k (fault f) n h = runtime f.reason h
 
-in_or : (w : Where) (r : ℕ) (x : Evaluation) → from_expression r ≡ true → InAnswer x → InAnswer (refused_or w r x)
-in_or Nowhere r x g h = h
-in_or (At o) r x g h = g
+in_or : (w : Option Offset) (r : Reason) (x : Evaluation) → from_expression (reason_number r) ≡ true → InAnswer x → InAnswer (refused_or w r x)
+in_or None r x g h = h
+in_or (Some o) r x g h = g
 
-in_kind : (k : Kind) (v : Value) (n : ℕ) → (clashes k ≡ false → HasKind k v) → InAnswer (refused_or (clash_in k) KINDS_UNSUITED (answer_value v n))
-in_kind Number v n h = in_answer_value Number v n (h refl)
-in_kind String v n h = in_answer_value String v n (h refl)
-in_kind Wide v n h = in_answer_value Wide v n (h refl)
+in_kind : (k : Kind) (v : Value) (n : ℕ) → (clashes k ≡ false → HasKind k v) → InAnswer (refused_or (clash_in k) KindsUnsuited (answer_value v n))
 in_kind (Clash p) v n h = refl
+in_kind k v n h = in_answer_value k v n (h refl)
 
-pub in_check_then_answer : (pcd : Where) (a : Attributes) → KindSound a → InAnswer (check_then_answer Nowhere pcd a)
-in_check_then_answer pcd a h = in_or pcd PCD_MISSING _ refl (in_kind a.kind a.value a.count h)
+pub in_check_then_answer : (pcd : Option Offset) (a : Attributes) → KindSound a → InAnswer (check_then_answer None pcd a)
+in_check_then_answer pcd a h = in_or pcd PcdMissing _ refl (in_kind a.kind a.value a.count h)
 
 module _ (m : Memory) (δ : Dialect) where
   abbrev ts : List Token
   ts = (reading m.expression (in_directives δ)).tokens
 
   parsed : (start : ℕ → ℕ) (o : Outcome Attributes) → parse code_of (meaning m) (token_in ts) (length ts) ≡ o
-      → InAnswer (answer_tokens start Nowhere (pcd_at m ts) o)
+      → InAnswer (answer_tokens start None (pcd_at m ts) o)
   parsed start (underived i) p = refl
   parsed start (accepted a) p =
       let r = ((evaluates (tokens_read m (in_directives δ)) (meaning m)).accepted_exactly a).0 p in
       let q : KindSound a = rw r.2 (kind_sound m r.0) in
       in_check_then_answer (pcd_at m ts) a q
 
-  by_ending : (x : Ending) → InEnding x → InAnswer (ended x (λ end. of_tokens m ts end (in_directives δ)))
+  by_ending : (x : Result Offset Refusal) → InEnding x → InAnswer (ended x (λ end. of_tokens m ts end (in_directives δ)))
   unfolding of_tokens
-  by_ending (Refused r) h = h
-  by_ending (Complete end) h = parsed (start_in ts end.0) (parse code_of (meaning m) (token_in ts) (length ts)) refl
+  by_ending (Err r) h = h
+  by_ending (Ok end) h = parsed (start_in ts end.0) (parse code_of (meaning m) (token_in ts) (length ts)) refl
 
   pub in_answer : InAnswer (evaluation_in m (in_directives δ))
   unfolding evaluation_in

@@ -7,12 +7,12 @@ use mathlib.Core.Bool.{◌||◌}
 use lib.ListN.{length}
 use lib.Dec.{eqb}
 use borrow.Author.Tests.{eqb-true}
+use Rattle.units.specs.declared.Dialect.{Dialect}
 use Rattle.text.proofs.Laws.{pick_case}
 use Rattle.codes.specs.Codes.{STRING, WIDE, MACRO, PCD, BARE}
-use Rattle.units.specs.declared.Dialect.{Dialect}
-use Rattle.lookup.specs.Setting.{Within as WithinTable}
+use Rattle.lookup.specs.Setting.{value_of, Within as WithinTable}
 use Rattle.lookup.specs.declared.Value.{Value as CodedValue}
-use Rattle.lookup.specs.declared.Value.TheVariants.{Number, Text, Fault}
+use Rattle.lookup.specs.declared.Value.TheVariants.{Number, Text}
 use Rattle.lookup.proofs.Within.{under_within}
 use Rattle.token.specs.Tokens.{Token}
 use Rattle.token.proofs.Within.{Within, tokens_in}
@@ -28,7 +28,6 @@ module _ (m : Memory) (δ : Dialect) where
   setting_in_bounds : (v : CodedValue) → WithinTable m.table v → InBounds m (denote_value m v)
   setting_in_bounds (Number x) h = tt
   setting_in_bounds (Text k p) h = (refl, rw h.0 h.1)
-  setting_in_bounds (Fault f) h = absurd h
 
   primary_in_bounds : (k : Token) → Within (length m.expression) k → InBounds m (primary_value m k)
   unfolding primary_value
@@ -37,7 +36,7 @@ module _ (m : Memory) (δ : Dialect) where
       (λ _. pick_case (InBounds m) (eqb k.code WIDE) (λ c. (refl, omega (arith, w.wide (eqb-true k.code WIDE c))))
       (λ _. pick_case (InBounds m) (eqb k.code BARE) (λ _. (refl, w.ends))
       (λ _. pick_case (InBounds m) (eqb k.code MACRO || eqb k.code PCD)
-      (λ _. setting_in_bounds (setting_of m k).value (under_within m.table (name_in m.expression k)))
+      (λ _. setting_in_bounds (value_of (setting_of m k)) (under_within m.table (name_in m.expression k)))
       (λ _. tt))))
 
   preserves : Preserves (meaning m) (Within (length m.expression)) (λ a. InBounds m a.value)

@@ -1,5 +1,6 @@
 -- A refusal of an expression that has no place, which is none of 3 to 12, has offset 0 (document 02, order 3), and no offset is past the
 -- expression. Assumes nothing.
+use Rattle.std.specs.Prelude.{Err, None, Ok, Option, Result, Some}
 use Prim.Native.Nat.{ℕ, ◌≤◌}
 use native.Mathlib.Omega.{arith}
 use mathlib.Core.Path.{◌≡◌, refl, sym, ◌∙◌}
@@ -7,18 +8,17 @@ use mathlib.Core.Logic.{◌⊎◌, inl, inr}
 use mathlib.Core.Bool.{true, false, false≢true}
 use mathlib.Core.List.{List}
 use lib.ListN.{length}
-use Rattle.units.specs.Refusals.{TABLE_MALFORMED, TOKEN_BAD, LITERAL_LARGE, TOKENS_MANY, PARENTHESES_DEEP, NO_DERIVATION, BAR_OUTSIDE, PCD_MISSING}
-use Rattle.units.specs.Refusals.{KINDS_UNSUITED, refusal_at, placed}
+use Rattle.units.specs.Refusals.{refusal_at, placed}
 use Rattle.units.specs.declared.Dialect.{Dialect}
 use Rattle.units.specs.declared.Refusal.{Refusal}
-use Rattle.units.specs.declared.Where.{Where}
-use Rattle.units.specs.declared.Where.TheVariants.{Nowhere, At}
+use Rattle.units.specs.declared.Offset.{Offset}
+use Rattle.units.specs.declared.Reason.{Reason}
+use Rattle.units.specs.declared.Reason.TheVariants.{TableMalformed, TokenBad, LiteralLarge, TokensMany, ParenthesesDeep}
+use Rattle.units.specs.declared.Reason.TheVariants.{NoDerivation, BarOutside, PcdMissing, KindsUnsuited}
 use Rattle.text.specs.Bytes.{pick}
 use Rattle.text.proofs.Laws.{pick_case}
 use Rattle.settings.specs.Table.{well_formed}
 use Rattle.token.specs.Tokens.{Token, reading}
-use Rattle.token.specs.declared.scan.Ending.{Ending}
-use Rattle.token.specs.declared.scan.Ending.TheVariants.{Complete, Refused}
 use Rattle.token.proofs.Endings.{every_ending}
 use Rattle.grammar.specs.Parse.{Outcome, refused as underived, accepted, parse}
 use Rattle.grammar.proofs.Decided.{evaluates}
@@ -27,7 +27,7 @@ use Rattle.value.specs.Kinds.{clashes}
 use Rattle.value.specs.Values.{Value, number, text, fault, RuntimeRefusal, HasKind}
 use Rattle.value.specs.Attributes.{Attributes}
 use Rattle.value.specs.declared.Kind.{Kind}
-use Rattle.value.specs.declared.Kind.TheVariants.{Number, String, Wide, Clash}
+use Rattle.value.specs.declared.Kind.TheVariants.{Clash}
 use Rattle.soundness.proofs.KindSound.{KindSound}
 use Rattle.expression.specs.Meaning.{code_of, meaning}
 use Rattle.leftmost.specs.Leftmost.{bar_at, pcd_at}
@@ -40,20 +40,20 @@ use Rattle.answers.proofs.RefusalNumbers.{in_lexeme}
 
 -- a refusal, an ending and an answer without a place have offset 0
 abbrev Zero : Refusal → Type 0
-Zero r = placed r.number ≡ false → r.offset.0 ≡ 0
+Zero r = placed r.reason ≡ false → r.offset.0 ≡ 0
 
-abbrev EndsZero : Ending → Type 0
-EndsZero (Complete end) = Unit
-EndsZero (Refused r) = Zero r
+abbrev EndsZero : Result Offset Refusal → Type 0
+EndsZero (Ok end) = Unit
+EndsZero (Err r) = Zero r
 
 abbrev AnswersZero : Evaluation → Type 0
 AnswersZero (value v n) = Unit
 AnswersZero (refused r) = Zero r
 
-has_place : (n o : ℕ) → placed n ≡ true → Zero (refusal_at n o)
+has_place : (n : Reason) (o : ℕ) → placed n ≡ true → Zero (refusal_at n o)
 has_place n o h e = absurd (false≢true (sym e ∙ h))
 
-bad_placed : (r : ℕ) → (r ≡ TOKEN_BAD) ⊎ (r ≡ LITERAL_LARGE) → placed r ≡ true
+bad_placed : (r : Reason) → (r ≡ TokenBad) ⊎ (r ≡ LiteralLarge) → placed r ≡ true
 bad_placed r (inl h) = rw h
 bad_placed r (inr h) = rw h
 
@@ -63,32 +63,30 @@ reading_zero e δ =
     (record {
       complete = λ at h. tt;
       bad = λ at h q s r w. has_place r at (bad_placed r (rw w at (in_lexeme q s δ)));
-      many = λ at h. has_place TOKENS_MANY at refl;
-      deep = λ at h. has_place PARENTHESES_DEEP at refl;
+      many = λ at h. has_place TokensMany at refl;
+      deep = λ at h. has_place ParenthesesDeep at refl;
       long = λ e. refl;
     })
 
-runtime_placed : (n : ℕ) → RuntimeRefusal n → placed n ≡ true
+runtime_placed : (n : Reason) → RuntimeRefusal n → placed n ≡ true
 runtime_placed n (inl h) = rw h
 runtime_placed n (inr h) = rw h
 
 value_zero : (k : Kind) (v : Value) (n : ℕ) → HasKind k v → AnswersZero (answer_value v n)
 value_zero k (number x) n h = tt
 value_zero k (text j p s) n h = tt
-value_zero k (fault f) n h = has_place f.number f.at.0 (runtime_placed f.number h)
+value_zero k (fault f) n h = has_place f.reason f.at.0 (runtime_placed f.reason h)
 
-or_zero : (w : Where) (r : ℕ) (x : Evaluation) → placed r ≡ true → AnswersZero x → AnswersZero (refused_or w r x)
-or_zero Nowhere r x g h = h
-or_zero (At o) r x g h = has_place r o.0 g
+or_zero : (w : Option Offset) (r : Reason) (x : Evaluation) → placed r ≡ true → AnswersZero x → AnswersZero (refused_or w r x)
+or_zero None r x g h = h
+or_zero (Some o) r x g h = has_place r o.0 g
 
-kind_zero : (k : Kind) (v : Value) (n : ℕ) → (clashes k ≡ false → HasKind k v) → AnswersZero (refused_or (clash_in k) KINDS_UNSUITED (answer_value v n))
-kind_zero Number v n h = value_zero Number v n (h refl)
-kind_zero String v n h = value_zero String v n (h refl)
-kind_zero Wide v n h = value_zero Wide v n (h refl)
-kind_zero (Clash p) v n h = has_place KINDS_UNSUITED p refl
+kind_zero : (k : Kind) (v : Value) (n : ℕ) → (clashes k ≡ false → HasKind k v) → AnswersZero (refused_or (clash_in k) KindsUnsuited (answer_value v n))
+kind_zero (Clash p) v n h = has_place KindsUnsuited p refl
+kind_zero k v n h = value_zero k v n (h refl)
 
-check_zero : (bar pcd : Where) (a : Attributes) → KindSound a → AnswersZero (check_then_answer bar pcd a)
-check_zero bar pcd a h = or_zero bar BAR_OUTSIDE _ refl (or_zero pcd PCD_MISSING _ refl (kind_zero a.kind a.value a.count h))
+check_zero : (bar pcd : Option Offset) (a : Attributes) → KindSound a → AnswersZero (check_then_answer bar pcd a)
+check_zero bar pcd a h = or_zero bar BarOutside _ refl (or_zero pcd PcdMissing _ refl (kind_zero a.kind a.value a.count h))
 
 module _ (m : Memory) (δ : Dialect) where
   abbrev ts : List Token
@@ -96,7 +94,7 @@ module _ (m : Memory) (δ : Dialect) where
 
   parsed : (start : ℕ → ℕ) (o : Outcome Attributes) → parse code_of (meaning m) (token_in ts) (length ts) ≡ o
       → AnswersZero (answer_tokens start (bar_at ts δ) (pcd_at m ts) o)
-  parsed start (underived i) p = has_place NO_DERIVATION (start i) refl
+  parsed start (underived i) p = has_place NoDerivation (start i) refl
   parsed start (accepted a) p =
       let r = ((evaluates (tokens_read m δ) (meaning m)).accepted_exactly a).0 p in
       let q : KindSound a = rw r.2 (kind_sound m r.0) in
@@ -106,15 +104,15 @@ module _ (m : Memory) (δ : Dialect) where
   unfolding evaluation_in of_tokens
   in_zero = by (reading m.expression δ).ending (reading_zero m.expression δ)
     where
-      by : (x : Ending) → EndsZero x → AnswersZero (ended x (λ end. of_tokens m ts end δ))
-      by (Refused r) h = h
-      by (Complete end) h = parsed (start_in ts end.0) (parse code_of (meaning m) (token_in ts) (length ts)) refl
+      by : (x : Result Offset Refusal) → EndsZero x → AnswersZero (ended x (λ end. of_tokens m ts end δ))
+      by (Err r) h = h
+      by (Ok end) h = parsed (start_in ts end.0) (parse code_of (meaning m) (token_in ts) (length ts)) refl
 
   -- THE THEOREM
-  pub offset_zero : (r : Refusal) → evaluation m δ ≡ refused r → placed r.number ≡ false → r.offset.0 ≡ 0
+  pub offset_zero : (r : Refusal) → evaluation m δ ≡ refused r → placed r.reason ≡ false → r.offset.0 ≡ 0
   unfolding evaluation
   offset_zero r e =
-      let answer : AnswersZero (pick (well_formed m.table) (evaluation_in m δ) (refused_with TABLE_MALFORMED)) =
+      let answer : AnswersZero (pick (well_formed m.table) (evaluation_in m δ) (refused_with TableMalformed)) =
       pick_case AnswersZero (well_formed m.table) (λ _. in_zero) (λ _ _. refl) in
       rw e at answer
 

@@ -3,26 +3,27 @@
 use Rattle.std.specs.Prelude.{ℕ, ◌≡◌, refl, Bool, List, [], ◌∷◌, map}
 use Prim.Native.String.{String}
 use Rattle.units.specs.Dialects.{by_itself, OLD}
-use Rattle.units.specs.Refusals.{TOKEN_BAD, LITERAL_LARGE, PARENTHESES_DEEP, NO_DERIVATION, BAR_OUTSIDE, PCD_MISSING, KINDS_UNSUITED}
-use Rattle.units.specs.Refusals.{RESULT_RANGE, DIVISOR_ZERO}
+use Rattle.units.specs.declared.Reason.{Reason}
+use Rattle.units.specs.declared.Reason.TheVariants.{TokenBad, LiteralLarge, ParenthesesDeep, NoDerivation, BarOutside, PcdMissing}
+use Rattle.units.specs.declared.Reason.TheVariants.{KindsUnsuited, ResultRange, DivisorZero}
 use Rattle.text.specs.Bytes.{bytes, class_of}
 use Rattle.text.specs.Runs.{span}
 use Rattle.text.specs.Order.{compared}
 use Rattle.text.specs.Names.{macro_name, pcd_name}
+use Rattle.codes.specs.Levels.{is_unary, level_of, is_equality}
 use Rattle.settings.specs.Table.{records_in, ordered_names, ordered, plain_records, well_formed}
+use Rattle.lookup.specs.Setting.{value_at, setting_under_at, setting_under}
 use Rattle.literal.specs.Literal.{digit_of, value_in, literal, is_decimal, is_hexadecimal, hexadecimal_of, number_of}
 use Rattle.lexeme.specs.Lexeme.{string_of, string_at, spelled, is_wide, word_of, macro_of, begins, leading, lexeme_by, lexeme}
 use Rattle.token.specs.Tokens.{read_token, read_byte, read_from, too_deep, check_depth, reading}
 use Rattle.arithmetic.specs.Digits.{and_digits, or_digits}
 use Rattle.arithmetic.specs.Operators.{apply_unary, apply_binary, comparison, compare_numbers}
-use Rattle.codes.specs.Levels.{is_unary, level_of, is_equality}
 use Rattle.grammar.specs.Grammar.{is_primary}
 use Rattle.grammar.specs.Parse.{run, parse}
-use Rattle.lookup.specs.Setting.{value_at, setting_under_at, setting_under}
+use Rattle.grammar.specs.Bars.{bars_outside}
 use Rattle.value.specs.Places.{over}
 use Rattle.value.specs.Kinds.{clash_or, unary_kind, binary_kind, choice_kind}
 use Rattle.value.specs.Values.{number, primary_value, missing_pcds, unary_value, both_values, binary_value, choice_value}
-use Rattle.grammar.specs.Bars.{bars_outside}
 use Rattle.evaluation.specs.Evaluation.{Evaluation, value, refused_at, evaluation_in, evaluation, of_tokens}
 
 -- an expression and its answer
@@ -33,7 +34,7 @@ pub record Example : Type 0 where
 abbrev gives : String → (x count : ℕ) → Example
 gives e x n = record { expression = e; answer = value (number x) n }
 
-abbrev refuses : String → (number offset : ℕ) → Example
+abbrev refuses : String → Reason → (offset : ℕ) → Example
 refuses e n o = record { expression = e; answer = refused_at n o }
 
 -- each value is a number, with its count of operators
@@ -45,11 +46,11 @@ examples =
     ∷ gives "6 & 3 == 3" 0 2
     ∷ gives "NOT 0 == 0" 0 2
     ∷ gives "0 AND 1 / 0" 0 1
-    ∷ refuses "0 AND \"a\"" KINDS_UNSUITED 2
+    ∷ refuses "0 AND \"a\"" KindsUnsuited 2
     ∷ gives "1 ? 2 : 1 / 0" 2 1
-    ∷ refuses "1 | 2" BAR_OUTSIDE 2
+    ∷ refuses "1 | 2" BarOutside 2
     ∷ gives "(1 | 2)" 3 1
-    ∷ refuses "1 << 64" RESULT_RANGE 2
+    ∷ refuses "1 << 64" ResultRange 2
     ∷ gives "\"zero\" < \"three\"" 0 1
     ∷ gives "\"thirty\" < \"thirty1\"" 1 1
     ∷ []
@@ -63,29 +64,29 @@ examples_hold old = refl
 abbrev pub places : List Example
 places =
     -- 7: the token, or where reading ended
-    refuses "" NO_DERIVATION 0
-    ∷ refuses "  # c" NO_DERIVATION 2
-    ∷ refuses "1 +  " NO_DERIVATION 5
-    ∷ refuses "1  2" NO_DERIVATION 3
-    ∷ refuses "(1 ? 2) : 3" NO_DERIVATION 6
+    refuses "" NoDerivation 0
+    ∷ refuses "  # c" NoDerivation 2
+    ∷ refuses "1 +  " NoDerivation 5
+    ∷ refuses "1  2" NoDerivation 3
+    ∷ refuses "(1 ? 2) : 3" NoDerivation 6
     -- 8: the leftmost bar
-    ∷ refuses "(1 | 2) | 3 || 4" BAR_OUTSIDE 8
+    ∷ refuses "(1 | 2) | 3 || 4" BarOutside 8
     -- 9: the leftmost PCD, skipped or not
-    ∷ refuses "0 AND a.b + c.d" PCD_MISSING 6
+    ∷ refuses "0 AND a.b + c.d" PcdMissing 6
     -- 10: the leftmost operator with no wrong one inside its operands; `?` for a choice
-    ∷ refuses "- (1 + 'a')" KINDS_UNSUITED 5
-    ∷ refuses "1 + ('a' * 2) == (3 - 'b')" KINDS_UNSUITED 9
-    ∷ refuses "1 ? 2 : 'a'" KINDS_UNSUITED 2
-    ∷ refuses "'a' ? 'b' : NOT 'c'" KINDS_UNSUITED 12
+    ∷ refuses "- (1 + 'a')" KindsUnsuited 5
+    ∷ refuses "1 + ('a' * 2) == (3 - 'b')" KindsUnsuited 9
+    ∷ refuses "1 ? 2 : 'a'" KindsUnsuited 2
+    ∷ refuses "'a' ? 'b' : NOT 'c'" KindsUnsuited 12
     -- 11 and 12: the operator at which evaluation met its first fault
-    ∷ refuses "- (1 / 0)" DIVISOR_ZERO 5
-    ∷ refuses "1 / 0 + (5 - 7)" DIVISOR_ZERO 2
-    ∷ refuses "(5 - 7) + 1 / 0" RESULT_RANGE 3
-    ∷ refuses "0 ? 1 / 0 : - 3" RESULT_RANGE 12
+    ∷ refuses "- (1 / 0)" DivisorZero 5
+    ∷ refuses "1 / 0 + (5 - 7)" DivisorZero 2
+    ∷ refuses "(5 - 7) + 1 / 0" ResultRange 3
+    ∷ refuses "0 ? 1 / 0 : - 3" ResultRange 12
     -- 6: the first parenthesis too deep; 3 and 4: the bad token
-    ∷ refuses "1+((((((((((((((((((" PARENTHESES_DEEP 18
-    ∷ refuses "1 + L'a" TOKEN_BAD 4
-    ∷ refuses "1 + 18446744073709551616" LITERAL_LARGE 4
+    ∷ refuses "1+((((((((((((((((((" ParenthesesDeep 18
+    ∷ refuses "1 + L'a" TokenBad 4
+    ∷ refuses "1 + 18446744073709551616" LiteralLarge 4
     ∷ []
 
 pub places_hold : (old : Bool) → map (λ x. evaluation (over (bytes x.expression) []) (by_itself old)) places ≡ map (λ x. x.answer) places
@@ -99,10 +100,10 @@ bare_words =
     ∷ gives "'b' != B" 1 1
     ∷ gives "\"a\" EQ a AND 1 NE 2" 1 3
     ∷ gives "0 == b < \"c\"" 0 2
-    ∷ refuses "1 == b" KINDS_UNSUITED 2
-    ∷ refuses "L\"b\" == b" KINDS_UNSUITED 5
-    ∷ refuses "\"b\" == b c" TOKEN_BAD 9
-    ∷ refuses "== b" NO_DERIVATION 0
+    ∷ refuses "1 == b" KindsUnsuited 2
+    ∷ refuses "L\"b\" == b" KindsUnsuited 5
+    ∷ refuses "\"b\" == b c" TokenBad 9
+    ∷ refuses "== b" NoDerivation 0
     ∷ []
 
 -- in the old edition

@@ -1,7 +1,7 @@
--- Numbers of 64 bits: when a product or a shift fits, and the bitwise operators digit by digit. Assumes nothing.
+-- Numbers of 64 bits: when a shift fits, and the bitwise operators digit by digit. Assumes nothing.
 use Prim.Native.Nat.{ℕ, zero, suc, ◌+◌, ◌*◌, ◌/◌, ◌%◌, ◌^◌, ◌≤◌, ◌<◌}
 use mathlib.Core.Path.{◌≡◌, refl}
-use native.Mathlib.Nat.{le-div_iff_mul-le, div-lt_iff_lt-mul, le_trans, lt_of_lt_of_le, le_of_eq, mul-le-mul_right}
+use native.Mathlib.Nat.{le_trans, lt_of_lt_of_le, le_of_eq, mul-le-mul_right}
 use native.Mathlib.Numerals.{add-one}
 use native.Mathlib.Omega.{arith}
 use borrow.Author.Tests.{lt-ltb, le-ltb}
@@ -9,27 +9,19 @@ use lib.Arith.{lt-one}
 use lib.Pow.{pow_mono, pow-add, shl_lt, shr_lt}
 use lib.Count.{count_leading_zeros, leading_top}
 use lib.Bits.{bit_and, bit_or, bit_xor, and_step, or_step, xor_step, differ}
+use Rattle.std.specs.Prelude.{Err, Ok}
+use Rattle.units.specs.declared.Reason.TheVariants.{ResultRange}
 use Rattle.arithmetic.specs.Digits.{and_digits, xor_digits, or_digits}
 use Rattle.arithmetic.specs.Operators.{in_range}
-use Rattle.arithmetic.specs.declared.Outcome.TheVariants.{Number, Refused}
 
-pub ranged_in : (v : ℕ) → v < 2 ^ 64 → Number v ≡ in_range v
+pub ranged_in : (v : ℕ) → v < 2 ^ 64 → Ok v ≡ in_range v
 ranged_in v h = rw (lt-ltb v (2 ^ 64) h)
 
-pub ranged_out : (v : ℕ) → 2 ^ 64 ≤ v → Refused 11 ≡ in_range v
+pub ranged_out : (v : ℕ) → 2 ^ 64 ≤ v → Err ResultRange ≡ in_range v
 ranged_out v h = rw (le-ltb v (2 ^ 64) h)
-
-pub product_in : (x y : ℕ) → 0 < y → x ≤ 18446744073709551615 / y → x * y < 2 ^ 64
-product_in x y p h = omega (arith, (le-div_iff_mul-le p).0 h)
-
-pub product_out : (x y : ℕ) → 0 < y → 18446744073709551615 / y < x → 2 ^ 64 ≤ x * y
-product_out x y p h = omega (arith, (div-lt_iff_lt-mul p).0 h)
 
 -- a shift of a number other than 0, by its leading zeros
 module _ (x y : ℕ) (p : 0 < x) (f : x < 2 ^ 64) where
-  pub shift_below : y ≤ count_leading_zeros 64 x → y < 64
-  shift_below h = let t = leading_top 64 x p f in omega arith
-
   pub shift_in : y ≤ count_leading_zeros 64 x → x * 2 ^ y < 2 ^ 64
   shift_in h =
       let t = leading_top 64 x p f in
@@ -68,3 +60,5 @@ pub or_digits_lem : (k x y : ℕ) → x < 2 ^ k → y < 2 ^ k → bit_or x y ≡
 unfolding or_digits
 or_digits_lem zero x y h g = rw (lt-one h, lt-one g)
 or_digits_lem (suc k) x y h g = rw (or_step x y, or_digits_lem k (x / 2) (y / 2) (half k x h) (half k y g))
+
+pub ruleset digit_by_digit = (and_digits_lem, xor_digits_lem, or_digits_lem)

@@ -68,8 +68,7 @@ module _ {K : Type 0} {code : K → ℕ} (supply : Supply code) {ts : List K} {t
         let m : e < length ts' = omega (arith, length-append (take (e + 1) ts) b.0, length-take-le (e + 1) ts (omega arith)) in
         let p = f (length ts') (λ i. get_or ts' i end) r.ends m (alike b.0) in
         let q = complete r b.1 b.2 in
-        let z : ◌≡◌ {A = ℕ} 0 1 = cc in
-        omega arith
+        cc
 
   -- what the parser read is a good beginning, and with the token at which it stops it is none
   stopped : (r : Result (Tree K)) → Traces code trees tok (find expression 0) r → FirstBad code ts (reach r)

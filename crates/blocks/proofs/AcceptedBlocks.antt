@@ -25,7 +25,7 @@ pub passed : (t : List ℕ) (δ : Dialect) (n : ℕ) (s : State) (l : List ℕ) 
 passed t δ n s l m s' e = (short, by (defines s l) refl)
   where
     short : length l ≤ 1024
-    short = short_step t δ n s l (go m s') e (λ q. let z : ◌≡◌ {A = ℕ} 0 1 = cc in omega arith)
+    short = short_step t δ n s l (go m s') e (λ q. cc)
 
     by : (b : Bool) → defines s l ≡ b → Moved (directive_of l) n s.groups s'.groups
     by true f =

@@ -4,14 +4,15 @@ use mathlib.Core.Path.{◌≡◌, ◌∙◌}
 use mathlib.Core.Logic.{◌⊎◌, inl, inr}
 use mathlib.Core.Bool.{true, false}
 use mathlib.Core.List.{List}
-use Rattle.units.specs.Refusals.{TEXT_MALFORMED, unplaced}
+use Rattle.std.specs.Prelude.{Err}
+use Rattle.units.specs.Refusals.{unplaced}
 use Rattle.units.specs.Dialects.{in_directives}
 use Rattle.units.specs.declared.Dialect.{Dialect}
+use Rattle.units.specs.declared.Reason.TheVariants.{TextMalformed}
 use Rattle.value.specs.Places.{over}
 use Rattle.evaluation.specs.Evaluation.{evaluation_in}
 use Rattle.line.specs.declared.Directive.{Directive}
 use Rattle.line.specs.declared.Directive.TheVariants.{If, Elseif}
-use Rattle.line.specs.declared.Condition.TheVariants.{Refused}
 use Rattle.condition.specs.Conditions.{spaced, of_answer, of_expression, evaluate}
 
 module _ (t : List ℕ) (d : Directive) (s : List ℕ) (δ : Dialect) (conditional : (d ≡ If) ⊎ (d ≡ Elseif)) where
@@ -24,6 +25,6 @@ module _ (t : List ℕ) (d : Directive) (s : List ℕ) (δ : Dialect) (condition
   unfolding of_expression
   condition_answer h = by_expression conditional ∙ rw h
 
-  pub unspaced : spaced s ≡ false → evaluate t d s δ ≡ Refused (unplaced TEXT_MALFORMED)
+  pub unspaced : spaced s ≡ false → evaluate t d s δ ≡ Err (unplaced TextMalformed)
   unfolding of_expression
   unspaced h = by_expression conditional ∙ rw h

@@ -6,20 +6,16 @@ use native.Mathlib.Nat.{zero-add, add_comm}
 use mathlib.Core.Path.{◌≡◌, sym, ◌∙◌}
 use mathlib.Core.Bool.{true}
 use mathlib.Core.List.{List, [], append-nil}
-use lib.ListN.{length}
 use Rattle.units.specs.declared.Dialect.{Dialect}
 use Rattle.units.specs.declared.Fault.{Fault}
-use Rattle.settings.specs.Table.{well_formed}
 use Rattle.own.specs.Own.{Own}
-use Rattle.line.specs.Lines.{lines}
 use Rattle.groups.specs.Groups.{state}
-use Rattle.select.specs.Select.{accepted, refused, run, start, selection}
-use Rattle.select.proofs.LimitsCorrect.{never, runs, accepted_runs}
+use Rattle.select.specs.Select.{accepted, refused, run, start}
+use Rattle.select.proofs.LimitsCorrect.{never}
 use Rattle.blocks.specs.Blocks.{Blocks, lines_of, Derives, depth}
 use Rattle.blocks.specs.Meaning.{Meaning, means, fault, meaning, result_of, WithinLimit}
 use Rattle.blocks.proofs.Continuation.{onto_accepted, follow}
 use Rattle.blocks.proofs.RunMeaning.{blocks_go}
-use Rattle.blocks.proofs.AcceptedBlocks.{accepted_follows}
 use Rattle.blocks.proofs.Unambiguous.{same_blocks}
 
 pub unambiguous : (ls : List (List ℕ)) (a b : Blocks) → Derives ls a → Derives ls b → a ≡ b

@@ -1,18 +1,20 @@
 -- A selection is refused with 8, 27 or 28 only at a kept DEFINE line. Assumes nothing.
-use Prim.Native.Nat.{ℕ, ◌-◌}
+use Prim.Native.Nat.{ℕ, ◌-◌, ◌≤◌}
 use native.Mathlib.Omega.{arith}
-use mathlib.Core.Path.{◌≡◌}
+use mathlib.Core.Path.{◌≡◌, ap}
 use mathlib.Core.Logic.{◌⊎◌, inl, inr}
 use mathlib.Core.Bool.{true, false≢true}
 use mathlib.Core.List.{List, []}
 use lib.ListN.{get_or}
-use Rattle.units.specs.Refusals.{BAR_OUTSIDE, DEFINED_MANY, DEFINED_LONG}
+use Rattle.std.specs.Prelude.{Err}
+use Rattle.units.specs.Refusals.{reason_number}
 use Rattle.units.specs.declared.Dialect.{Dialect}
 use Rattle.units.specs.declared.Fault.{Fault}
+use Rattle.units.specs.declared.Reason.{Reason}
+use Rattle.units.specs.declared.Reason.TheVariants.{BarOutside, DefinedLong, DefinedMany}
 use Rattle.own.specs.Own.{scope}
 use Rattle.line.specs.Directives.{directive_of}
 use Rattle.line.specs.Lines.{lines}
-use Rattle.line.specs.declared.Condition.TheVariants.{Refused}
 use Rattle.groups.specs.Groups.{State}
 use Rattle.select.specs.Step.{defines}
 use Rattle.select.specs.Select.{refused, selection}
@@ -21,31 +23,31 @@ use Rattle.blocks.proofs.TextFaults.{from_text, InCondition, in_line_lem}
 use Rattle.blocks.proofs.OwnOrText.{Bare}
 use Rattle.blocks.proofs.SelectionFaults.{Caused, refused_line, OfText, selection_explains}
 
-abbrev OfDefine : ℕ → Type 0
-OfDefine r = (r ≡ BAR_OUTSIDE) ⊎ ((r ≡ DEFINED_MANY) ⊎ (r ≡ DEFINED_LONG))
+abbrev OfDefine : Reason → Type 0
+OfDefine r = (r ≡ BarOutside) ⊎ ((r ≡ DefinedMany) ⊎ (r ≡ DefinedLong))
 
 -- no other text is refused so, and no line without its text
-not_of_text : (r : ℕ) → OfDefine r → from_text r ≡ true → ⊥
+not_of_text : (r : Reason) → OfDefine r → from_text (reason_number r) ≡ true → ⊥
 not_of_text r (inl e) h = false≢true (rw e at h)
 not_of_text r (inr (inl e)) h = false≢true (rw e at h)
 not_of_text r (inr (inr e)) h = false≢true (rw e at h)
 
-not_bare : (x : Fault) → OfDefine x.number → Bare x → ⊥
-not_bare x (inl e) (inl b, z) = omega arith
-not_bare x (inl e) (inr b, z) = omega arith
-not_bare x (inr (inl e)) (inl b, z) = omega arith
-not_bare x (inr (inl e)) (inr b, z) = omega arith
-not_bare x (inr (inr e)) (inl b, z) = omega arith
-not_bare x (inr (inr e)) (inr b, z) = omega arith
+numbered : (r : Reason) → OfDefine r → (reason_number r ≡ 8) ⊎ (27 ≤ reason_number r)
+numbered r (inl e) = inl (ap reason_number e)
+numbered r (inr (inl e)) = inr (rw e (omega arith))
+numbered r (inr (inr e)) = inr (rw e (omega arith))
 
-caused_define : (t : List ℕ) (δ : Dialect) (n : ℕ) (s : State) (l : List ℕ) (x : Fault) → OfDefine x.number → Caused t δ n s l x → defines s l ≡ true
+not_bare : (x : Fault) → OfDefine x.reason → Bare x → ⊥
+not_bare x h b = let k = numbered x.reason h in omega arith
+
+caused_define : (t : List ℕ) (δ : Dialect) (n : ℕ) (s : State) (l : List ℕ) (x : Fault) → OfDefine x.reason → Caused t δ n s l x → defines s l ≡ true
 caused_define t δ n s l x h (inl e) =
-    let k : InCondition (Refused x) = rw e at (in_line_lem (scope s.own t) δ (directive_of l) l) in
-    absurd (not_of_text x.number h k)
+    let k : InCondition (Err x) = rw e at (in_line_lem (scope s.own t) δ (directive_of l) l) in
+    absurd (not_of_text x.reason h k)
 caused_define t δ n s l x h (inr e) = e.0
 
 pub define_only : (f t : List ℕ) (δ : Dialect) (x : Fault) (n room : ℕ) → selection f t room δ ≡ refused x n
-    → (x.number ≡ BAR_OUTSIDE) ⊎ ((x.number ≡ DEFINED_MANY) ⊎ (x.number ≡ DEFINED_LONG))
+    → (x.reason ≡ BarOutside) ⊎ ((x.reason ≡ DefinedMany) ⊎ (x.reason ≡ DefinedLong))
     → (s : State) × Reaches t (lines f) n s δ × (defines s (get_or (lines f) (n - 1) []) ≡ true)
 define_only f t δ x n room e h = by (selection_explains f t δ x n room e)
   where

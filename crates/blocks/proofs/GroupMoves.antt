@@ -7,22 +7,24 @@ use mathlib.Core.List.{List, [], ◌∷◌}
 use lib.ListN.{length, drop}
 use lib.Dec.{leb}
 use borrow.Author.Tests.{leb-false}
+use Rattle.std.specs.Prelude.{Ok, Err, Result}
 use Rattle.units.specs.Refusals.{unplaced}
+use Rattle.units.specs.declared.Fault.{Fault}
+use Rattle.units.specs.declared.Reason.TheVariants.{DirectiveStray, NestingDeep}
 use Rattle.text.specs.Bytes.{pick}
 use Rattle.own.specs.Own.{Own}
 use Rattle.line.specs.Directives.{directive_of}
 use Rattle.line.specs.declared.Directive.{Directive}
 use Rattle.line.specs.declared.Directive.TheVariants.{Plain, If, Ifdef, Ifndef, Elseif, Else, Endif, Unknown}
 use Rattle.line.specs.declared.Condition.{Condition}
-use Rattle.line.specs.declared.Condition.TheVariants.{Holds, Fails, Refused}
-use Rattle.groups.specs.Rules.{MAX_GROUPS, UNREAD, first_branch, was_taken, next_branch, plan, settled}
+use Rattle.line.specs.declared.Condition.TheVariants.{Holds, Fails}
+use Rattle.groups.specs.Rules.{MAX_GROUPS, UNREAD, first_branch, was_taken, next_branch, plan, settled, read_if}
 use Rattle.groups.specs.Groups.{Group, group, innermost, State, state, Outcome, go, stop, applied}
 use Rattle.groups.specs.declared.Flags.{Flags}
-use Rattle.groups.specs.declared.Transition.TheVariants.{Push, Replace, Pop, Refuse}
-use Rattle.groups.specs.declared.Plan.TheVariants.{Read, Unread}
+use Rattle.groups.specs.declared.Transition.TheVariants.{Push, Replace, Pop}
 use Rattle.select.specs.Step.{planned, decided}
 use Rattle.blocks.specs.Blocks.{opens}
-use Rattle.blocks.proofs.Numbers.{same_number}
+use Rattle.blocks.proofs.Reasons.{same_reason}
 use Rattle.blocks.proofs.StepByWord.{depth_length, some_open, live, opens_plan, opens_settled}
 use Rattle.blocks.proofs.MayFollow.{Front, Others, After, None, Rest, before_plain, before_opening, before_elseif, before_else, before_endif}
 
@@ -60,14 +62,10 @@ started Endif n ns = drop 1 ns
 started Unknown n ns = ns
 
 pub started_opens : (d : Directive) (n : ℕ) (ns : List ℕ) → opens d ≡ true → started d n ns ≡ n ∷ ns
-started_opens Plain n ns o = absurd (false≢true o)
 started_opens If n ns o = refl
 started_opens Ifdef n ns o = refl
 started_opens Ifndef n ns o = refl
-started_opens Elseif n ns o = absurd (false≢true o)
-started_opens Else n ns o = absurd (false≢true o)
-started_opens Endif n ns o = absurd (false≢true o)
-started_opens Unknown n ns o = absurd (false≢true o)
+started_opens _ n ns o = absurd (false≢true o)
 
 -- if lines may follow after a line inside a group, then that line and these may follow before it
 abbrev pub Some : List Bool → Type 0
@@ -125,30 +123,30 @@ Can Unknown fs = Unit
 
 -- an outcome that is no refusal changes the groups so; a refusal is not 19 if the groups and the word let the line pass and the condition
 -- is not refused with 19
-abbrev pub Moving : Condition → Directive → ℕ → List Group → Outcome → Type 0
+abbrev pub Moving : Result Condition Fault → Directive → ℕ → List Group → Outcome → Type 0
 Moving c d n gs (go m s) = Moved d n gs s.groups
-Moving c d n gs (stop x) = (c ≡ Refused (unplaced 19) → ⊥) → Can d (flags gs) → x ≡ unplaced 19 → ⊥
+Moving c d n gs (stop x) = (c ≡ Err (unplaced DirectiveStray) → ⊥) → Can d (flags gs) → x ≡ unplaced DirectiveStray → ⊥
 
 -- a line that opens a group
 module _ (d : Directive) (o : opens d ≡ true) (n k : ℕ) (own : List Own) (gs : List Group) where
   enters : (f : Flags) → f.last ≡ false → leb MAX_GROUPS (length gs) ≡ false → Moved d n gs (group f n ∷ gs)
   enters f e h = record { moves = rw e (enter o); at = sym (started_opens d n (starts gs) o); few = λ _. leb-false MAX_GROUPS (length gs) h }
 
-  pub opening_moves : (c : Condition) → Moving c d n gs (decided d c n (state gs k own))
+  pub opening_moves : (c : Result Condition Fault) → Moving c d n gs (decided d c n (state gs k own))
   unfolding settled
   opening_moves c = rw (opens_plan d o gs, depth_length gs) (by (leb MAX_GROUPS (length gs)) refl (live gs) c)
     where
-      read : (c : Condition) (b : Bool) (j : ℕ) → leb MAX_GROUPS (length gs) ≡ false
-          → Moving c d n gs (applied (settled d (innermost gs).flags b) n j (state gs k own))
+      read : (c : Result Condition Fault) (b : Bool) (j : ℕ) → leb MAX_GROUPS (length gs) ≡ false
+          → Moving c d n gs (applied (Ok (settled d (innermost gs).flags b)) n j (state gs k own))
       read c b j e = rw (opens_settled d o (innermost gs).flags b) (enters (first_branch true b) refl e)
 
-      by : (a : Bool) → leb MAX_GROUPS (length gs) ≡ a → (b : Bool) (c : Condition)
+      by : (a : Bool) → leb MAX_GROUPS (length gs) ≡ a → (b : Bool) (c : Result Condition Fault)
           → Moving c d n gs
-          (planned (pick a (Unread (Refuse (unplaced 20))) (pick b Read (Unread (Push UNREAD (first_branch false false))))) d c n (state gs k own))
-      by true e b c = λ w a z. omega (arith, same_number z)
-      by false e true (Holds j) = read (Holds j) true j e
-      by false e true (Fails j) = read (Fails j) false j e
-      by false e true (Refused x) = λ w a z. w (ap Refused z)
+          (planned (pick a (Err (unplaced NestingDeep)) (read_if b (Push UNREAD (first_branch false false)))) d c n (state gs k own))
+      by true e b c = λ w a z. let k = same_reason z in cc
+      by false e true (Ok (Holds j)) = read (Ok (Holds j)) true j e
+      by false e true (Ok (Fails j)) = read (Ok (Fails j)) false j e
+      by false e true (Err x) = λ w a z. w (ap Err z)
       by false e false c = enters (first_branch false false) refl e
 
 -- a line inside the group with these flags, or outside all groups
@@ -159,49 +157,49 @@ module _ (n k : ℕ) (own : List Own) (gs : List Group) (f : Flags) (m : ℕ) wh
   turns : (taken : Bool) → f.last ≡ false → Moved Elseif n (group f m ∷ gs) (group (next_branch f taken false) m ∷ gs)
   turns taken e = record { moves = rw e turn; at = refl; few = λ h. h }
 
-  elseif_moves : (c : Condition) → Moving c Elseif n (group f m ∷ gs) (decided Elseif c n around)
+  elseif_moves : (c : Result Condition Fault) → Moving c Elseif n (group f m ∷ gs) (decided Elseif c n around)
   unfolding plan settled
   elseif_moves c = rw (some_open (group f m) gs) (by f.last refl (f.around && not (was_taken f)) c)
     where
-      by : (l : Bool) → f.last ≡ l → (r : Bool) (c : Condition)
+      by : (l : Bool) → f.last ≡ l → (r : Bool) (c : Result Condition Fault)
           → Moving c Elseif n (group f m ∷ gs)
-          (planned (pick l (Unread (Refuse (unplaced 19))) (pick r Read (Unread (Replace UNREAD (next_branch f false false))))) Elseif c n around)
+          (planned (pick l (Err (unplaced DirectiveStray)) (read_if r (Replace UNREAD (next_branch f false false)))) Elseif c n around)
       by true e r c = λ w a z. let x : Can Elseif (true ∷ flags gs) = rw e at a in x
-      by false e true (Holds j) = turns true e
-      by false e true (Fails j) = turns false e
-      by false e true (Refused x) = λ w a z. w (ap Refused z)
+      by false e true (Ok (Holds j)) = turns true e
+      by false e true (Ok (Fails j)) = turns false e
+      by false e true (Err x) = λ w a z. w (ap Err z)
       by false e false c = turns false e
 
   ends : (taken : Bool) → f.last ≡ false → Moved Else n (group f m ∷ gs) (group (next_branch f taken true) m ∷ gs)
   ends taken e = record { moves = rw e final; at = refl; few = λ h. h }
 
-  else_moves : (c : Condition) → Moving c Else n (group f m ∷ gs) (decided Else c n around)
+  else_moves : (c : Result Condition Fault) → Moving c Else n (group f m ∷ gs) (decided Else c n around)
   unfolding plan settled
   else_moves c = rw (some_open (group f m) gs) (by f.last refl f.around c)
     where
-      by : (l : Bool) → f.last ≡ l → (r : Bool) (c : Condition)
+      by : (l : Bool) → f.last ≡ l → (r : Bool) (c : Result Condition Fault)
           → Moving c Else n (group f m ∷ gs)
-          (planned (pick l (Unread (Refuse (unplaced 19))) (pick r Read (Unread (Replace UNREAD (next_branch f false true))))) Else c n around)
+          (planned (pick l (Err (unplaced DirectiveStray)) (read_if r (Replace UNREAD (next_branch f false true)))) Else c n around)
       by true e r c = λ w a z. let x : Can Else (true ∷ flags gs) = rw e at a in x
-      by false e true (Holds j) = ends (not (was_taken f)) e
-      by false e true (Fails j) = ends (not (was_taken f)) e
-      by false e true (Refused x) = λ w a z. w (ap Refused z)
+      by false e true (Ok (Holds j)) = ends (not (was_taken f)) e
+      by false e true (Ok (Fails j)) = ends (not (was_taken f)) e
+      by false e true (Err x) = λ w a z. w (ap Err z)
       by false e false c = ends false e
 
-  endif_moves : (c : Condition) → Moving c Endif n (group f m ∷ gs) (decided Endif c n around)
+  endif_moves : (c : Result Condition Fault) → Moving c Endif n (group f m ∷ gs) (decided Endif c n around)
   unfolding plan settled
   endif_moves c = rw (some_open (group f m) gs) (by f.around c)
     where
       leaves : Moved Endif n (group f m ∷ gs) gs
       leaves = record { moves = leave; at = refl; few = λ h. omega arith }
 
-      by : (r : Bool) (c : Condition) → Moving c Endif n (group f m ∷ gs) (planned (pick r Read (Unread (Pop UNREAD))) Endif c n around)
-      by true (Holds j) = leaves
-      by true (Fails j) = leaves
-      by true (Refused x) = λ w a z. w (ap Refused z)
+      by : (r : Bool) (c : Result Condition Fault) → Moving c Endif n (group f m ∷ gs) (planned (read_if r (Pop UNREAD)) Endif c n around)
+      by true (Ok (Holds j)) = leaves
+      by true (Ok (Fails j)) = leaves
+      by true (Err x) = λ w a z. w (ap Err z)
       by false c = leaves
 
-pub decided_moves : (d : Directive) (c : Condition) (n k : ℕ) (own : List Own) (gs : List Group) → Moving c d n gs (decided d c n (state gs k own))
+pub decided_moves : (d : Directive) (c : Result Condition Fault) (n k : ℕ) (own : List Own) (gs : List Group) → Moving c d n gs (decided d c n (state gs k own))
 unfolding plan
 decided_moves Plain c n k own gs = stays n gs
 decided_moves If c n k own gs = opening_moves If refl n k own gs c
@@ -213,4 +211,4 @@ decided_moves Else c n k own [] = λ w a z. a
 decided_moves Else c n k own (g ∷ gs) = else_moves n k own gs g.flags g.line c
 decided_moves Endif c n k own [] = λ w a z. a
 decided_moves Endif c n k own (g ∷ gs) = endif_moves n k own gs g.flags g.line c
-decided_moves Unknown c n k own gs = λ w a z. omega (arith, same_number z)
+decided_moves Unknown c n k own gs = λ w a z. let k = same_reason z in cc

@@ -6,7 +6,7 @@ use mathlib.Core.Path.{◌≡◌, refl, sym, ap, ◌∙◌}
 use mathlib.Core.Logic.{◌↔◌, ◌⊎◌, inl, inr}
 use mathlib.Core.Bool.{Bool, true, false, ◌||◌, false≢true}
 use mathlib.Core.List.{List, []}
-use lib.ListN.{length, get_or, take}
+use lib.ListN.{length, get_or}
 use lib.Dec.{ltb}
 use borrow.Author.Tests.{ltb-true, ltb-false}
 use Rattle.units.specs.declared.Dialect.{Dialect}
@@ -20,11 +20,10 @@ use Rattle.define.proofs.MacroNames.{line_name, line_name_in}
 use Rattle.define.proofs.Sets.{record_set, record_kept}
 use Rattle.groups.specs.Groups.{State}
 use Rattle.select.specs.Step.{defines}
-use Rattle.select.specs.Select.{start}
 use Rattle.blocks.specs.Passing.{Reaches}
 use Rattle.blocks.specs.LastSetting.{SetBefore, NotSetBefore}
 use Rattle.blocks.proofs.Stops.{reaches_one}
-use Rattle.blocks.proofs.SettingsByLine.{none_first, reaches_line, line_leaves, line_puts, passes_keep}
+use Rattle.blocks.proofs.SettingsByLine.{none_first, reaches_line, line_leaves, line_puts}
 
 module _ (t : List ℕ) (δ : Dialect) (ls : List (List ℕ)) where
   abbrev at : ℕ → List ℕ

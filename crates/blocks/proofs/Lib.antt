@@ -1,4 +1,4 @@
-pub mod Numbers
+pub mod Reasons
 pub mod Passing
 pub mod Continuation
 pub mod StepByWord

@@ -6,7 +6,9 @@ use mathlib.Core.Logic.{◌↔◌}
 use mathlib.Core.Bool.{Bool, true, false, not, ◌&&◌, ◌||◌, false≢true}
 use mathlib.Core.List.{List, [], ◌∷◌, ◌++◌, append_assoc}
 use lib.ListN.{length, get_or}
+use Rattle.std.specs.Prelude.{Ok, Err, Result}
 use Rattle.units.specs.declared.Dialect.{Dialect}
+use Rattle.units.specs.declared.Fault.{Fault}
 use Rattle.text.specs.Bytes.{pick}
 use Rattle.text.proofs.Laws.{and_left}
 use Rattle.own.specs.Own.{Own, scope}
@@ -16,7 +18,7 @@ use Rattle.line.specs.declared.Directive.TheVariants.{Plain, Elseif, Else, Endif
 use Rattle.line.proofs.DefineLine.{define_plain}
 use Rattle.condition.specs.Conditions.{condition_of}
 use Rattle.line.specs.declared.Condition.{Condition}
-use Rattle.line.specs.declared.Condition.TheVariants.{Holds, Fails, Refused}
+use Rattle.line.specs.declared.Condition.TheVariants.{Holds, Fails}
 use Rattle.define.specs.Define.{Definition, sets, fails, definition_of}
 use Rattle.isolation.specs.Isolation.{Read}
 use Rattle.select.specs.Select.{accepted, selection}
@@ -99,11 +101,11 @@ module _ (l : List ℕ) where
     read : (m c : ℕ) (own : List Own) → 3 ≤ m → m ≤ 5 → Shows (l ∷ []) (true ∷ []) own (single m c own)
     read m c own h k = one l true m c own (read_tells m h k)
 
-    closing_shows : (around : Bool) (c : Condition) (own : List Own) → Shows (l ∷ []) (around ∷ []) own (closing around c own)
+    closing_shows : (around : Bool) (c : Result Condition Fault) (own : List Own) → Shows (l ∷ []) (around ∷ []) own (closing around c own)
     closing_shows false c own = unread 2 0 own (omega arith)
-    closing_shows true (Holds n) own = read 5 n own (omega arith) (omega arith)
-    closing_shows true (Fails n) own = read 5 n own (omega arith) (omega arith)
-    closing_shows true (Refused x) own = tt
+    closing_shows true (Ok (Holds n)) own = read 5 n own (omega arith) (omega arith)
+    closing_shows true (Ok (Fails n)) own = read 5 n own (omega arith) (omega arith)
+    closing_shows true (Err x) own = tt
 
   module _ (define : is_define l ≡ true) where
     define_tells : Tells l true 6
@@ -144,33 +146,33 @@ module _ (l : List ℕ) (other : directive_of l ≡ Plain → ⊥) (in_body in-o
       (shows_then (l ∷ []) in_body (r ∷ []) (reads-body live own) own own₁ (single m c own) (body live) h (body-shows live own))
       (others-show taken own₁)
 
-  branch_shows : (r : Bool) (c : Condition) (earlier : Bool) (own : List Own)
+  branch_shows : (r : Bool) (c : Result Condition Fault) (earlier : Bool) (own : List Own)
       → Branch r (r && holds c) (earlier || (r && holds c)) own (branch r c earlier own body others)
   branch_shows false c true own = line_shows false 2 0 own false true (unread l 2 0 own (omega arith))
   branch_shows false c false own = line_shows false 2 0 own false false (unread l 2 0 own (omega arith))
-  branch_shows true (Holds n) true own = line_shows true 4 n own true true (read l other 4 n own (omega arith) (omega arith))
-  branch_shows true (Holds n) false own = line_shows true 4 n own true true (read l other 4 n own (omega arith) (omega arith))
-  branch_shows true (Fails n) true own = line_shows true 3 n own false true (read l other 3 n own (omega arith) (omega arith))
-  branch_shows true (Fails n) false own = line_shows true 3 n own false false (read l other 3 n own (omega arith) (omega arith))
-  branch_shows true (Refused x) earlier own = tt
+  branch_shows true (Ok (Holds n)) true own = line_shows true 4 n own true true (read l other 4 n own (omega arith) (omega arith))
+  branch_shows true (Ok (Holds n)) false own = line_shows true 4 n own true true (read l other 4 n own (omega arith) (omega arith))
+  branch_shows true (Ok (Fails n)) true own = line_shows true 3 n own false true (read l other 3 n own (omega arith) (omega arith))
+  branch_shows true (Ok (Fails n)) false own = line_shows true 3 n own false false (read l other 3 n own (omega arith) (omega arith))
+  branch_shows true (Err x) earlier own = tt
 
   -- an `!else`, whose condition does not decide its branch
-  else_shows : (around : Bool) (c : Condition) (earlier : Bool) (own : List Own)
+  else_shows : (around : Bool) (c : Result Condition Fault) (earlier : Bool) (own : List Own)
       → Branch around (around && not earlier) (earlier || (around && not earlier)) own (branch around (otherwise earlier c) earlier own body others)
   else_shows false c true own = line_shows false 2 0 own false true (unread l 2 0 own (omega arith))
   else_shows false c false own = line_shows false 2 0 own false false (unread l 2 0 own (omega arith))
-  else_shows true (Holds n) true own = line_shows true 3 n own false true (read l other 3 n own (omega arith) (omega arith))
-  else_shows true (Holds n) false own = line_shows true 4 n own true true (read l other 4 n own (omega arith) (omega arith))
-  else_shows true (Fails n) true own = line_shows true 3 n own false true (read l other 3 n own (omega arith) (omega arith))
-  else_shows true (Fails n) false own = line_shows true 4 n own true true (read l other 4 n own (omega arith) (omega arith))
-  else_shows true (Refused x) earlier own = tt
+  else_shows true (Ok (Holds n)) true own = line_shows true 3 n own false true (read l other 3 n own (omega arith) (omega arith))
+  else_shows true (Ok (Holds n)) false own = line_shows true 4 n own true true (read l other 4 n own (omega arith) (omega arith))
+  else_shows true (Ok (Fails n)) true own = line_shows true 3 n own false true (read l other 3 n own (omega arith) (omega arith))
+  else_shows true (Ok (Fails n)) false own = line_shows true 4 n own true true (read l other 4 n own (omega arith) (omega arith))
+  else_shows true (Err x) earlier own = tt
 
 module _ (t : List ℕ) (δ : Dialect) where
   -- the end of a group
   end_shows : (around : Bool) (e : List ℕ) → directive_of e ≡ Endif → (own : List Own)
       → Shown (e ∷ []) (around ∷ []) (closing around (condition_of (scope own t) Endif e δ) own)
   end_shows around e w own =
-      let c : Condition = condition_of (scope own t) Endif e δ in
+      let c : Result Condition Fault = condition_of (scope own t) Endif e δ in
       shown (e ∷ []) (around ∷ []) own (closing around c own) (closing_shows e (λ p. omega (arith, ap place w, ap place p)) around c own)
 
   mutual
@@ -183,7 +185,7 @@ module _ (t : List ℕ) (δ : Dialect) where
         shown_then (l ∷ []) (lines_of bs) ((is_define l && around) ∷ []) (reads_of t (settings x) around bs δ) (settings x) x
         (λ own. meaning t own around bs δ) (plain_shows l t δ own around) (blocks_show bs w.1 around (settings x))
     blocks_show (group l body os bs) w around own =
-        let c : Condition = condition_of (scope own t) (directive_of l) l δ in
+        let c : Result Condition Fault = condition_of (scope own t) (directive_of l) l δ in
         let taken : Bool = around && holds c in
         let own₁ : List Own = settings (meaning t own taken body δ) in
         let own₂ : List Own = settings (branches t own₁ around taken os δ) in

@@ -90,7 +90,7 @@ Ahead most fs l ls = (gs : List Bool) × Moves (directive_of l) fs gs × Rest mo
 
 module _ (most : ℕ) (l : List ℕ) (ls : List (List ℕ)) where
   nothing : (A : Type 0) → None (l ∷ ls) → A
-  nothing A e = let z : ◌≡◌ {A = ℕ} 0 1 = cc in absurd (omega arith)
+  nothing A e = absurd cc
 
   plain_ahead : (fs : List Bool) → directive_of l ≡ Plain → Rest most fs ls → Ahead most fs l ls
   plain_ahead fs e r = (fs, rw e stay, r)

@@ -87,7 +87,7 @@ module _ (l m : List ℕ) (mid : List (List ℕ)) (body body' : Blocks) (os os' 
       x = whole_before (l ∷ mid) (group l body os empty) g d w
 
       by : (bs : Blocks) → l ∷ mid ≡ lines_of bs → Fits bs → ⊥
-      by empty e v = let z : ◌≡◌ {A = ℕ} 0 1 = cc in omega arith
+      by empty e v = cc
       by (line y a) e v =
           let i : l ≡ y = cc in
           omega (arith, ap (λ k. place (directive_of k)) i, ap place v.0, place_opens (directive_of l) d.words.0)

@@ -5,6 +5,7 @@ use mathlib.Core.Path.{◌≡◌, refl, sym, ap, ◌∙◌}
 use mathlib.Core.Bool.{Bool, true, false}
 use mathlib.Core.List.{List, [], ◌∷◌, ◌++◌, append-nil}
 use lib.ListN.{length}
+use Rattle.std.specs.Prelude.{Ok}
 use Rattle.units.specs.declared.Dialect.{Dialect}
 use Rattle.text.specs.Bytes.{bytes, class_of}
 use Rattle.text.specs.Runs.{span}
@@ -49,7 +50,7 @@ pub rest_derives : (ls : List (List ℕ)) (r : Rest 16 [] ls) → Derives ls r.b
 rest_derives ls r = (record { lines = r.lines ∙ rw (r.next, append-nil); words = r.fits }, omega (arith, r.deep))
 
 -- every open group can be ended without a fault
-endif_condition : (t : List ℕ) (δ : Dialect) → condition_of t Endif (bytes "!endif") δ ≡ Holds 0
+endif_condition : (t : List ℕ) (δ : Dialect) → condition_of t Endif (bytes "!endif") δ ≡ Ok (Holds 0)
 unfolding evaluate idle named word_start text_start directive_of span compared class_of
 endif_condition t δ = refl
 
@@ -60,7 +61,7 @@ prepend_accepting : (m : ℕ) (r : Result) → Accepting r → Accepting (prepen
 prepend_accepting m r w = (m ∷ w.0, w.1, ap (prepend m) w.2)
 
 closing_accepting : (b : Bool) (n k : ℕ) (own : List Own) (f : Continues) → ((n k : ℕ) (own : List Own) → Accepting (f n k own))
-    → Accepting (follow n k (closing b (Holds 0) own) f)
+    → Accepting (follow n k (closing b (Ok (Holds 0)) own) f)
 closing_accepting false n k own f h = prepend_accepting 2 (f (n + 1) (k + 0) own) (h (n + 1) (k + 0) own)
 closing_accepting true n k own f h = prepend_accepting 5 (f (n + 1) (k + 0) own) (h (n + 1) (k + 0) own)
 
@@ -71,7 +72,7 @@ closers_accepting t δ [] n k own = ([], k, refl)
 closers_accepting t δ (g ∷ gs) n k own =
     let e = end_goes t δ g.flags g.line gs (bytes "!endif") (closers (flags gs)) an_endif endif_short n k own in
     let f : Continues = λ n k own. run t n (state gs k own) (closers (flags gs)) δ in
-    let q : run t n (state (g ∷ gs) k own) (bytes "!endif" ∷ closers (flags gs)) δ ≡ follow n k (closing g.flags.around (Holds 0) own) f =
+    let q : run t n (state (g ∷ gs) k own) (bytes "!endif" ∷ closers (flags gs)) δ ≡ follow n k (closing g.flags.around (Ok (Holds 0)) own) f =
     rw (endif_condition (scope own t) δ) at e in
     let w = closing_accepting g.flags.around n k own f (λ n' k' own'. closers_accepting t δ gs n' k' own') in
     (w.0, w.1, q ∙ w.2)

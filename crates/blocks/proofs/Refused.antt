@@ -8,12 +8,14 @@ use mathlib.Core.List.{List, [], ◌∷◌, ◌++◌}
 use lib.ListN.{length}
 use lib.Dec.{leb, ltb}
 use borrow.Author.Tests.{leb-true, leb-false, ltb-true, ltb-false}
+use Rattle.std.specs.Prelude.{Result as Answered}
 use Rattle.units.specs.declared.Dialect.{Dialect}
 use Rattle.units.specs.declared.Fault.{Fault}
 use Rattle.units.specs.Refusals.{unplaced}
+use Rattle.units.specs.declared.Reason.TheVariants.{DirectiveStray, FileUnfinished, LineLong, NestingDeep, WordUnknown}
 use Rattle.line.specs.Directives.{directive_of}
 use Rattle.line.specs.declared.Directive.{Directive}
-use Rattle.line.specs.declared.Directive.TheVariants.{Plain, If, Ifdef, Ifndef, Elseif, Else, Endif, Unknown}
+use Rattle.line.specs.declared.Directive.TheVariants.{Plain, Unknown}
 use Rattle.line.specs.declared.Condition.{Condition}
 use Rattle.groups.specs.Rules.{plan}
 use Rattle.groups.specs.Groups.{State, stop}
@@ -44,16 +46,10 @@ same_stop : (a b : Fault) → stop a ≡ stop b → a ≡ b
 same_stop a b e = cc
 
 known_or_not : (d : Directive) → (d ≡ Unknown) ⊎ (d ≡ Unknown → ⊥)
-known_or_not Plain = inr (λ e. let z : ◌≡◌ {A = ℕ} 0 1 = cc in omega arith)
-known_or_not If = inr (λ e. let z : ◌≡◌ {A = ℕ} 0 1 = cc in omega arith)
-known_or_not Ifdef = inr (λ e. let z : ◌≡◌ {A = ℕ} 0 1 = cc in omega arith)
-known_or_not Ifndef = inr (λ e. let z : ◌≡◌ {A = ℕ} 0 1 = cc in omega arith)
-known_or_not Elseif = inr (λ e. let z : ◌≡◌ {A = ℕ} 0 1 = cc in omega arith)
-known_or_not Else = inr (λ e. let z : ◌≡◌ {A = ℕ} 0 1 = cc in omega arith)
-known_or_not Endif = inr (λ e. let z : ◌≡◌ {A = ℕ} 0 1 = cc in omega arith)
 known_or_not Unknown = inl refl
+known_or_not _ = inr (λ e. cc)
 
-decided_unknown : (d : Directive) → d ≡ Unknown → (c : Condition) (n : ℕ) (s : State) → decided d c n s ≡ stop (unplaced 18)
+decided_unknown : (d : Directive) → d ≡ Unknown → (c : Answered Condition Fault) (n : ℕ) (s : State) → decided d c n s ≡ stop (unplaced WordUnknown)
 unfolding plan
 decided_unknown d e c n s = rw e
 
@@ -74,7 +70,7 @@ module _ (t : List ℕ) (δ : Dialect) (ls : List (List ℕ)) (s : State) (p : P
   abbrev m : ℕ
   m = 1 + length ls
 
-  abbrev c : Condition
+  abbrev c : Answered Condition Fault
   c = said t δ m s l
 
   few : length s.groups ≤ 16
@@ -116,7 +112,7 @@ module _ (t : List ℕ) (δ : Dialect) (ls : List (List ℕ)) (s : State) (p : P
           → (a : Bool) → leb 16 (length s.groups) ≡ a
           → Refuses t ls l δ x
       moving gs v true o true h =
-          let q = same_stop (unplaced 20) x (sym (full (directive_of l) o m s.count s.own s.groups c (leb-true 16 (length s.groups) h)) ∙ done) in
+          let q = same_stop (unplaced NestingDeep) x (sym (full (directive_of l) o m s.count s.own s.groups c (leb-true 16 (length s.groups) h)) ∙ done) in
           subst (Refuses t ls l δ) q (deep short o (deeper t δ ls s p m l short o (e ∙ ap stop (sym q))))
       moving gs v true o false h =
           let k = leb-false 16 (length s.groups) h in
@@ -126,12 +122,12 @@ module _ (t : List ℕ) (δ : Dialect) (ls : List (List ℕ)) (s : State) (p : P
           text_faulty x gs short v (moves_few v (omega (arith, flags_length s.groups)) (λ i. absurd (false≢true (sym o ∙ i)))) e
 
       by_word : ((directive_of l ≡ Unknown) ⊎ (directive_of l ≡ Unknown → ⊥)) → Refuses t ls l δ x
-      by_word (inl u) = subst (Refuses t ls l δ) (same_stop (unplaced 18) x (sym (decided_unknown (directive_of l) u c m s) ∙ done)) (unknown short u)
+      by_word (inl u) = subst (Refuses t ls l δ) (same_stop (unplaced WordUnknown) x (sym (decided_unknown (directive_of l) u c m s) ∙ done)) (unknown short u)
       by_word (inr known) =
           move_or_stray c m s.count s.own (Refuses t ls l δ x) (directive_of l) known s.groups
           (λ gs v. moving gs v (opens (directive_of l)) refl (leb 16 (length s.groups)) refl)
           (λ q.
-          let z = same_stop (unplaced 19) x (sym q ∙ done) in
+          let z = same_stop (unplaced DirectiveStray) x (sym q ∙ done) in
           subst (Refuses t ls l δ) z (stray short known (not_both t δ ls s p m l short (e ∙ ap stop (sym z)))))
 
   stop_reason : (x : Fault) → step t m s l δ ≡ stop x → Refuses t ls l δ x
@@ -144,7 +140,7 @@ module _ (t : List ℕ) (δ : Dialect) (ls : List (List ℕ)) (s : State) (p : P
       by : (b : Bool) → ltb 1024 (length l) ≡ b → Refuses t ls l δ x
       by true h =
           let k = ltb-true 1024 (length l) h in
-          subst (Refuses t ls l δ) (same_stop (unplaced 17) x (sym (long_step t δ m s l k) ∙ e)) (long k)
+          subst (Refuses t ls l δ) (same_stop (unplaced LineLong) x (sym (long_step t δ m s l k) ∙ e)) (long k)
       by false h = within (ltb-false 1024 (length l) h) (defines s l) refl
 
   -- a fault in the meaning of blocks that the lines begin stops the run at this line
@@ -176,16 +172,16 @@ module _ (t : List ℕ) (δ : Dialect) (ls : List (List ℕ)) (s : State) (p : P
   reason_stops : {x : Fault} → Refuses t ls l δ x → step t m s l δ ≡ stop x
   reason_stops (long h) = long_step t δ m s l h
   reason_stops (unknown h u) =
-      decided_step t δ m s l h (other_line t δ m s l (λ e. let z : ◌≡◌ {A = ℕ} 0 1 = cc in omega arith)) ∙ decided_unknown (directive_of l) u c m s
+      decided_step t δ m s l h (other_line t δ m s l (λ e. cc)) ∙ decided_unknown (directive_of l) u c m s
   reason_stops (stray h k b) = refuses t δ ls s p m l h k b
   reason_stops (deep h o d) = refused_deep t δ ls s p m l h o d
   reason_stops (faulty {x} more bs d k limit e) = fault_stops x more bs d k limit e
 
 module _ (t : List ℕ) (δ : Dialect) (ls : List (List ℕ)) (x : Fault) (n : ℕ) where
-  has_reason : run t 1 start ls δ ≡ refused x n → RefusedAt t ls x n δ ⊎ ((x ≡ unplaced 21) × RefusedAtEnd t ls n δ)
+  has_reason : run t 1 start ls δ ≡ refused x n → RefusedAt t ls x n δ ⊎ ((x ≡ unplaced FileUnfinished) × RefusedAtEnd t ls n δ)
   has_reason e = by (refused_where t δ ls 1 start x n e)
     where
-      by : Stopped t δ 1 start ls x n ⊎ Ended t δ 1 start ls x n → RefusedAt t ls x n δ ⊎ ((x ≡ unplaced 21) × RefusedAtEnd t ls n δ)
+      by : Stopped t δ 1 start ls x n ⊎ Ended t δ 1 start ls x n → RefusedAt t ls x n δ ⊎ ((x ≡ unplaced FileUnfinished) × RefusedAtEnd t ls n δ)
       by (inl w) =
           let v : n ≡ 1 + length w.before = w.number in
           let k : step t (1 + length w.before) w.state w.at δ ≡ stop x = rw v at w.stops in
@@ -206,7 +202,7 @@ module _ (t : List ℕ) (δ : Dialect) (ls : List (List ℕ)) (x : Fault) (n : �
           let same : i.0 ≡ n = cc (sym i.2 ∙ e) in
           inr (z, record { passable = passes_passable t δ ls w.state w.passes; unfinished = not-whole; innermost = rw (sym same) i.1 })
 
-  refuses_so : RefusedAt t ls x n δ ⊎ ((x ≡ unplaced 21) × RefusedAtEnd t ls n δ) → run t 1 start ls δ ≡ refused x n
+  refuses_so : RefusedAt t ls x n δ ⊎ ((x ≡ unplaced FileUnfinished) × RefusedAtEnd t ls n δ) → run t 1 start ls δ ≡ refused x n
   refuses_so (inl w) =
       let q = passable_passes t δ w.before w.passable in
       let k = reason_stops t δ w.before q.0 q.1 w.refusing w.reason in
@@ -224,5 +220,5 @@ module _ (t : List ℕ) (δ : Dialect) (ls : List (List ℕ)) (x : Fault) (n : �
       u.2 ∙ rw (z, y)
 
 pub refused_by_blocks : (t : List ℕ) (δ : Dialect) (ls : List (List ℕ)) (x : Fault) (n : ℕ)
-    → (run t 1 start ls δ ≡ refused x n) ↔ (RefusedAt t ls x n δ ⊎ ((x ≡ unplaced 21) × RefusedAtEnd t ls n δ))
+    → (run t 1 start ls δ ≡ refused x n) ↔ (RefusedAt t ls x n δ ⊎ ((x ≡ unplaced FileUnfinished) × RefusedAtEnd t ls n δ))
 refused_by_blocks t δ ls x n = (has_reason t δ ls x n, refuses_so t δ ls x n)

@@ -7,6 +7,7 @@ use mathlib.Core.Path.{◌≡◌, refl, sym, ap, ◌∙◌}
 use mathlib.Core.Bool.{Bool, true, false, not, ◌&&◌, ◌||◌}
 use mathlib.Core.List.{List, [], ◌∷◌, ◌++◌, append_assoc}
 use lib.ListN.{length}
+use Rattle.std.specs.Prelude.{Ok, Err, Result}
 use Rattle.units.specs.declared.Dialect.{Dialect}
 use Rattle.units.specs.declared.Fault.{Fault}
 use Rattle.text.specs.Bytes.{pick}
@@ -15,13 +16,12 @@ use Rattle.line.specs.Directives.{is_define, directive_of}
 use Rattle.line.specs.declared.Directive.TheVariants.{Plain, Elseif, Else, Endif}
 use Rattle.condition.specs.Conditions.{condition_of}
 use Rattle.line.specs.declared.Condition.{Condition}
-use Rattle.line.specs.declared.Condition.TheVariants.{Holds, Fails, Refused}
+use Rattle.line.specs.declared.Condition.TheVariants.{Holds, Fails}
 use Rattle.define.specs.Define.{Definition, sets, fails, definition_of}
-use Rattle.groups.specs.Rules.{next_branch, plan, settled}
+use Rattle.groups.specs.Rules.{next_branch, plan, settled, read_if}
 use Rattle.groups.specs.Groups.{Group, group as entry, State, state, go, stop}
 use Rattle.groups.specs.declared.Flags.{Flags}
 use Rattle.groups.specs.declared.Transition.TheVariants.{Replace, Pop}
-use Rattle.groups.specs.declared.Plan.TheVariants.{Read, Unread}
 use Rattle.select.specs.Step.{planned, defined, step}
 use Rattle.select.specs.Select.{refused, prepend, run}
 use Rattle.select.proofs.Steps.{defined_step, plain_step}
@@ -92,17 +92,17 @@ module _ (t : List ℕ) (δ : Dialect) where
   unfolding plan settled
   end_goes x m gs l ls e h n k own =
       by x.around (condition_of (scope own t) Endif l δ)
-      (rw (some_open (entry x m) gs) at (step_word t δ n k (entry x m ∷ gs) own l h Endif (λ q. let z : ◌≡◌ {A = ℕ} 0 1 = cc in omega arith) e))
+      (rw (some_open (entry x m) gs) at (step_word t δ n k (entry x m ∷ gs) own l h Endif (λ q. cc) e))
     where
       before : State
       before = state (entry x m ∷ gs) k own
 
-      by : (r : Bool) (c : Condition) → step t n before l δ ≡ planned (pick r Read (Unread (Pop 2))) Endif c n before
+      by : (r : Bool) (c : Result Condition Fault) → step t n before l δ ≡ planned (read_if r (Pop 2)) Endif c n before
           → run t n before (l ∷ ls) δ ≡ follow n k (closing r c own) (with_groups gs ls)
       by false c q = run_go n _ l ls 2 (state gs (k + 0) own) q
-      by true (Holds j) q = run_go n _ l ls 5 (state gs (k + j) own) q
-      by true (Fails j) q = run_go n _ l ls 5 (state gs (k + j) own) q
-      by true (Refused x) q = run_stop n _ l ls x q ∙ rw add-zero
+      by true (Ok (Holds j)) q = run_go n _ l ls 5 (state gs (k + j) own) q
+      by true (Ok (Fails j)) q = run_go n _ l ls 5 (state gs (k + j) own) q
+      by true (Err x) q = run_stop n _ l ls x q ∙ rw add-zero
 
   -- inside a group whose `!else` was not seen
   abbrev inside : (k m : ℕ) → List Group → List Own → (a e b : Bool) → State
@@ -111,21 +111,21 @@ module _ (t : List ℕ) (δ : Dialect) where
   module _ (n k m : ℕ) (gs : List Group) (own : List Own) (l : List ℕ) (a e b : Bool) (short : length l ≤ 1024) where
     inner_elseif : directive_of l ≡ Elseif
         → step t n (inside k m gs own a e b) l δ
-        ≡ planned (pick (a && not (e || b)) Read (Unread (Replace 2 (next_branch (flagged a e b false) false false)))) Elseif
+        ≡ planned (read_if (a && not (e || b)) (Replace 2 (next_branch (flagged a e b false) false false))) Elseif
         (condition_of (scope own t) Elseif l δ) n (inside k m gs own a e b)
     unfolding plan
     inner_elseif w =
         let g = entry (flagged a e b false) m in
-        rw (some_open g gs) at (step_word t δ n k (g ∷ gs) own l short Elseif (λ q. let z : ◌≡◌ {A = ℕ} 0 1 = cc in omega arith) w)
+        rw (some_open g gs) at (step_word t δ n k (g ∷ gs) own l short Elseif (λ q. cc) w)
 
     inner_else : directive_of l ≡ Else
         → step t n (inside k m gs own a e b) l δ
-        ≡ planned (pick a Read (Unread (Replace 2 (next_branch (flagged a e b false) false true)))) Else (condition_of (scope own t) Else l δ) n
+        ≡ planned (read_if a (Replace 2 (next_branch (flagged a e b false) false true))) Else (condition_of (scope own t) Else l δ) n
         (inside k m gs own a e b)
     unfolding plan
     inner_else w =
         let g = entry (flagged a e b false) m in
-        rw (some_open g gs) at (step_word t δ n k (g ∷ gs) own l short Else (λ q. let z : ◌≡◌ {A = ℕ} 0 1 = cc in omega arith) w)
+        rw (some_open g gs) at (step_word t δ n k (g ∷ gs) own l short Else (λ q. cc) w)
 
   -- the line of a first, a further or a last branch
   module _ (l : List ℕ) (body : Blocks) (behind : List (List ℕ)) (gs : List Group) (f : Continues) where
@@ -143,19 +143,19 @@ module _ (t : List ℕ) (δ : Dialect) where
 
     module _ (rest : Bool → Bool → List Own → Meaning) (n k : ℕ) (own : List Own) (goes : (x : Flags) → BodyGoes (entry x n ∷ gs) body)
         (then-goes : (a e b : Bool) → GoesAs (entry (flagged a e b false) n ∷ gs) behind (rest a (e || b)) f) where
-      opening_goes : (b : Bool) (c : Condition) → step t n (state gs k own) l δ ≡ begun b c n k gs own
+      opening_goes : (b : Bool) (c : Result Condition Fault) → step t n (state gs k own) l δ ≡ begun b c n k gs own
           → run t n (state gs k own) (l ∷ (lines_of body ++ behind)) δ
           ≡ follow n k (branch b c false own (λ b own'. meaning t own' b body δ) (λ taken. rest b taken)) f
       opening_goes false c q = to rest n k n own false goes then-goes (state gs k own) false false false 2 0 q
-      opening_goes true (Holds j) q = to rest n k n own false goes then-goes (state gs k own) true false true 4 j q
-      opening_goes true (Fails j) q = to rest n k n own false goes then-goes (state gs k own) true false false 3 j q
-      opening_goes true (Refused x) q = at rest n k n own false goes then-goes (state gs k own) x q
+      opening_goes true (Ok (Holds j)) q = to rest n k n own false goes then-goes (state gs k own) true false true 4 j q
+      opening_goes true (Ok (Fails j)) q = to rest n k n own false goes then-goes (state gs k own) true false false 3 j q
+      opening_goes true (Err x) q = at rest n k n own false goes then-goes (state gs k own) x q
 
     module _ (rest : Bool → Bool → List Own → Meaning) (n k m : ℕ) (own : List Own) (goes : (x : Flags) → BodyGoes (entry x m ∷ gs) body)
         (then-goes : (a e b : Bool) → GoesAs (entry (flagged a e b false) m ∷ gs) behind (rest a (e || b)) f) where
-      elseif_goes : (a e b : Bool) (c : Condition)
+      elseif_goes : (a e b : Bool) (c : Result Condition Fault)
           → step t n (inside k m gs own a e b) l δ
-          ≡ planned (pick (a && not (e || b)) Read (Unread (Replace 2 (next_branch (flagged a e b false) false false)))) Elseif c n (inside k m gs own a e b)
+          ≡ planned (read_if (a && not (e || b)) (Replace 2 (next_branch (flagged a e b false) false false))) Elseif c n (inside k m gs own a e b)
           → run t n (inside k m gs own a e b) (l ∷ (lines_of body ++ behind)) δ
           ≡ follow n k (branch (a && not (e || b)) c (e || b) own (λ x own'. meaning t own' x body δ) (λ taken. rest a taken)) f
       unfolding settled
@@ -164,30 +164,30 @@ module _ (t : List ℕ) (δ : Dialect) where
       elseif_goes false false false c q = to rest n k m own false goes then-goes (inside k m gs own false false false) false false false 2 0 q
       elseif_goes true true b c q = to rest n k m own false goes then-goes (inside k m gs own true true b) true true false 2 0 q
       elseif_goes true false true c q = to rest n k m own false goes then-goes (inside k m gs own true false true) true true false 2 0 q
-      elseif_goes true false false (Holds j) q = to rest n k m own false goes then-goes (inside k m gs own true false false) true false true 4 j q
-      elseif_goes true false false (Fails j) q = to rest n k m own false goes then-goes (inside k m gs own true false false) true false false 3 j q
-      elseif_goes true false false (Refused x) q = at rest n k m own false goes then-goes (inside k m gs own true false false) x q
+      elseif_goes true false false (Ok (Holds j)) q = to rest n k m own false goes then-goes (inside k m gs own true false false) true false true 4 j q
+      elseif_goes true false false (Ok (Fails j)) q = to rest n k m own false goes then-goes (inside k m gs own true false false) true false false 3 j q
+      elseif_goes true false false (Err x) q = at rest n k m own false goes then-goes (inside k m gs own true false false) x q
 
     module _ (rest : Bool → Bool → List Own → Meaning) (n k m : ℕ) (own : List Own) (goes : (x : Flags) → BodyGoes (entry x m ∷ gs) body)
         (then-goes : (a e b : Bool) → GoesAs (entry (flagged a e b true) m ∷ gs) behind (rest a (e || b)) f) where
-      else_goes : (a e b : Bool) (c : Condition)
+      else_goes : (a e b : Bool) (c : Result Condition Fault)
           → step t n (inside k m gs own a e b) l δ
-          ≡ planned (pick a Read (Unread (Replace 2 (next_branch (flagged a e b false) false true)))) Else c n (inside k m gs own a e b)
+          ≡ planned (read_if a (Replace 2 (next_branch (flagged a e b false) false true))) Else c n (inside k m gs own a e b)
           → run t n (inside k m gs own a e b) (l ∷ (lines_of body ++ behind)) δ
           ≡ follow n k (branch a (otherwise (e || b) c) (e || b) own (λ x own'. meaning t own' x body δ) (λ taken. rest a taken)) f
       unfolding settled
       else_goes false true b c q = to rest n k m own true goes then-goes (inside k m gs own false true b) false true false 2 0 q
       else_goes false false true c q = to rest n k m own true goes then-goes (inside k m gs own false false true) false true false 2 0 q
       else_goes false false false c q = to rest n k m own true goes then-goes (inside k m gs own false false false) false false false 2 0 q
-      else_goes true true b (Holds j) q = to rest n k m own true goes then-goes (inside k m gs own true true b) true true false 3 j q
-      else_goes true true b (Fails j) q = to rest n k m own true goes then-goes (inside k m gs own true true b) true true false 3 j q
-      else_goes true true b (Refused x) q = at rest n k m own true goes then-goes (inside k m gs own true true b) x q
-      else_goes true false true (Holds j) q = to rest n k m own true goes then-goes (inside k m gs own true false true) true true false 3 j q
-      else_goes true false true (Fails j) q = to rest n k m own true goes then-goes (inside k m gs own true false true) true true false 3 j q
-      else_goes true false true (Refused x) q = at rest n k m own true goes then-goes (inside k m gs own true false true) x q
-      else_goes true false false (Holds j) q = to rest n k m own true goes then-goes (inside k m gs own true false false) true false true 4 j q
-      else_goes true false false (Fails j) q = to rest n k m own true goes then-goes (inside k m gs own true false false) true false true 4 j q
-      else_goes true false false (Refused x) q = at rest n k m own true goes then-goes (inside k m gs own true false false) x q
+      else_goes true true b (Ok (Holds j)) q = to rest n k m own true goes then-goes (inside k m gs own true true b) true true false 3 j q
+      else_goes true true b (Ok (Fails j)) q = to rest n k m own true goes then-goes (inside k m gs own true true b) true true false 3 j q
+      else_goes true true b (Err x) q = at rest n k m own true goes then-goes (inside k m gs own true true b) x q
+      else_goes true false true (Ok (Holds j)) q = to rest n k m own true goes then-goes (inside k m gs own true false true) true true false 3 j q
+      else_goes true false true (Ok (Fails j)) q = to rest n k m own true goes then-goes (inside k m gs own true false true) true true false 3 j q
+      else_goes true false true (Err x) q = at rest n k m own true goes then-goes (inside k m gs own true false true) x q
+      else_goes true false false (Ok (Holds j)) q = to rest n k m own true goes then-goes (inside k m gs own true false false) true false true 4 j q
+      else_goes true false false (Ok (Fails j)) q = to rest n k m own true goes then-goes (inside k m gs own true false false) true false true 4 j q
+      else_goes true false false (Err x) q = at rest n k m own true goes then-goes (inside k m gs own true false false) x q
 
   -- blocks, and the branches of a group
   mutual
@@ -202,7 +202,7 @@ module _ (t : List ℕ) (δ : Dialect) where
         ∙ sym (follow_then n k v (λ own. meaning t own (live gs) bs δ) (with_groups gs ls))
     blocks_go (group l body os bs) w h gs d ls n k own =
         let f : Continues = with_groups gs (lines_of bs ++ ls) in
-        let c : Condition = condition_of (scope own t) (directive_of l) l δ in
+        let c : Result Condition Fault = condition_of (scope own t) (directive_of l) l δ in
         let v : Meaning =
         branch (live gs) c false own (λ b own. meaning t own b body δ) (λ taken own. branches t own (live gs) taken os δ) in
         rw (append_assoc, append_assoc)

@@ -9,13 +9,15 @@ use mathlib.Core.List.{List, [], ◌∷◌}
 use lib.ListN.{length, get_or, take}
 use lib.Seq.{take_at, get_or-append_seam}
 use lib.Dec.{ltb}
-use Rattle.units.specs.Refusals.{TABLE_MALFORMED, FILE_LONG, LINES_MANY, MARKS_SHORT, FILE_UNFINISHED, unplaced}
+use Rattle.std.specs.Prelude.{Err}
+use Rattle.units.specs.Refusals.{unplaced}
 use Rattle.units.specs.declared.Dialect.{Dialect}
 use Rattle.units.specs.declared.Fault.{Fault}
+use Rattle.units.specs.declared.Reason.{Reason}
+use Rattle.units.specs.declared.Reason.TheVariants.{FileLong, FileUnfinished, LinesMany, MarksShort, TableMalformed}
 use Rattle.text.proofs.Laws.{pick_case}
 use Rattle.settings.specs.Table.{well_formed}
 use Rattle.line.specs.Lines.{lines}
-use Rattle.line.specs.declared.Condition.TheVariants.{Refused}
 use Rattle.define.specs.Define.{fails}
 use Rattle.groups.specs.Groups.{State, stop}
 use Rattle.select.specs.Step.{defines}
@@ -41,7 +43,7 @@ module _ (t : List ℕ) (δ : Dialect) (ls : List (List ℕ)) (x : Fault) (n : �
 
 -- the fault of line l in the state before it is that of its text
 abbrev pub Caused : (t : List ℕ) (δ : Dialect) (n : ℕ) → State → List ℕ → Fault → Type 0
-Caused t δ n s l x = (said t δ n s l ≡ Refused x) ⊎ ((defines s l ≡ true) × (told t δ n s l ≡ fails x))
+Caused t δ n s l x = (said t δ n s l ≡ Err x) ⊎ ((defines s l ≡ true) × (told t δ n s l ≡ fails x))
 
 module _ (f t : List ℕ) (δ : Dialect) (x : Fault) (n : ℕ) where
   abbrev pub refused_line : List ℕ
@@ -73,16 +75,16 @@ module _ (f t : List ℕ) (δ : Dialect) (x : Fault) (n : ℕ) where
     where
       by : Stopped t δ 1 start (lines f) x n ⊎ Ended t δ 1 start (lines f) x n → Bare x ⊎ OfText
       by (inl w) = stopped_explains w
-      by (inr w) = let q = at_end_lem w.state.groups w.state.count x n w.unclosed in inl (rw q (bare FILE_UNFINISHED (omega arith) (omega arith)))
+      by (inr w) = let q = at_end_lem w.state.groups w.state.count x n w.unclosed in inl (rw q (bare FileUnfinished (omega arith) (omega arith)))
 
-  early : (k : ℕ) → Bare (unplaced k) → Explains (refused (unplaced k) 0)
+  early : (k : Reason) → Bare (unplaced k) → Explains (refused (unplaced k) 0)
   early k h e = let q : x ≡ unplaced k = cc in inl (rw q h)
 
   pub selection_explains : (room : ℕ) → selection f t room δ ≡ refused x n → Bare x ⊎ OfText
   unfolding selection
   selection_explains room =
       pick_case Explains (well_formed t)
-      (λ _. pick_case Explains (ltb MAX_FILE (length f)) (λ _. early FILE_LONG (bare FILE_LONG (omega arith) (omega arith)))
-      (λ _. pick_case Explains (ltb MAX_LINES (length (lines f))) (λ _. early LINES_MANY (bare LINES_MANY (omega arith) (omega arith)))
-      (λ _. pick_case Explains (ltb room (length (lines f))) (λ _. early MARKS_SHORT (bare MARKS_SHORT (omega arith) (omega arith))) (λ _. run_explains))))
-      (λ _. early TABLE_MALFORMED (inl refl, refl))
+      (λ _. pick_case Explains (ltb MAX_FILE (length f)) (λ _. early FileLong (bare FileLong (omega arith) (omega arith)))
+      (λ _. pick_case Explains (ltb MAX_LINES (length (lines f))) (λ _. early LinesMany (bare LinesMany (omega arith) (omega arith)))
+      (λ _. pick_case Explains (ltb room (length (lines f))) (λ _. early MarksShort (bare MarksShort (omega arith) (omega arith))) (λ _. run_explains))))
+      (λ _. early TableMalformed (inl refl, refl))

@@ -1,7 +1,6 @@
 -- The settings before a line, by blocks: with some `!endif` lines after them, the lines before it derive blocks whose meaning has these
 -- settings after the last line. Assumes nothing.
 use Prim.Native.Nat.{ℕ, ◌+◌, ◌-◌, ◌≤◌}
-use native.Mathlib.Omega.{arith}
 use mathlib.Core.Path.{◌≡◌, refl, sym, ap, ◌∙◌}
 use mathlib.Core.Bool.{Bool, true}
 use mathlib.Core.List.{List, [], ◌∷◌, ◌++◌, append-nil}
@@ -31,7 +30,7 @@ module _ (t : List ℕ) (δ : Dialect) where
   closers_leave : (fs : List Bool) (n : ℕ) (s s' : State) → Passes t δ n s (closers fs) s' → s'.own ≡ s.own
   closers_leave [] n s s' e = ap (λ q. q.own) (sym e)
   closers_leave (b ∷ fs) n s s' p =
-      let other = other_line t δ n s (bytes "!endif") (λ e. let z : Endif ≡ Plain = sym an_endif ∙ e in let y : ◌≡◌ {A = ℕ} 0 1 = cc in omega arith) in
+      let other = other_line t δ n s (bytes "!endif") (λ e. let z : Endif ≡ Plain = sym an_endif ∙ e in cc) in
       closers_leave fs (n + 1) p.1 s' p.3 ∙ same_own t δ n s (bytes "!endif") other p.0 p.1 p.2
 
   module _ (ls : List (List ℕ)) (s : State) (p : Passes t δ 1 start ls s) where

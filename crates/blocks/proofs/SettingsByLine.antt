@@ -9,6 +9,7 @@ use mathlib.Core.List.Memᴰ
 use mathlib.Core.List.{List, [], ◌∷◌, ◌++◌, Memᴰ}
 use lib.ListN.{length, get_or, take}
 use lib.Seq.{length-take-le, take-suc}
+use Rattle.std.specs.Option.{is_some}
 use Rattle.units.specs.declared.Dialect.{Dialect}
 use Rattle.settings.specs.Table.{well_formed}
 use Rattle.lookup.specs.Setting.{setting_under, record_under}
@@ -106,5 +107,5 @@ module _ (t : List ℕ) (δ : Dialect) where
     pub pcd_record : (p : List ℕ) → IsPcd p → record_under (scope s.own t) p ≡ record_under t p
     pcd_record p = pcd_of_table s.own t p reached_macros
 
-    pub pcd_there : (p : List ℕ) → IsPcd p → (setting_under (scope s.own t) p).found ≡ (setting_under t p).found
+    pub pcd_there : (p : List ℕ) → IsPcd p → is_some (setting_under (scope s.own t) p) ≡ is_some (setting_under t p)
     pcd_there p = pcd_found s.own t p reached_macros

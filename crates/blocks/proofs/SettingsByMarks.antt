@@ -7,14 +7,16 @@ use mathlib.Core.Bool.{Bool, true, false, not, ◌&&◌, false≢true}
 use mathlib.Core.List.{List, [], ◌∷◌, ◌++◌, append_assoc}
 use lib.Dec.{eqb}
 use borrow.Author.Tests.{ne_eqb}
+use Rattle.std.specs.Prelude.{Ok, Err, Result as Answered}
 use Rattle.units.specs.declared.Dialect.{Dialect}
+use Rattle.units.specs.declared.Fault.{Fault}
 use Rattle.text.specs.Bytes.{pick}
 use Rattle.text.proofs.Laws.{pick_case}
 use Rattle.own.specs.Own.{Own, scope, put}
 use Rattle.line.specs.Directives.{is_define, directive_of}
 use Rattle.line.specs.declared.Directive.TheVariants.{Elseif, Else, Endif}
 use Rattle.line.specs.declared.Condition.{Condition}
-use Rattle.line.specs.declared.Condition.TheVariants.{Holds, Fails, Refused}
+use Rattle.line.specs.declared.Condition.TheVariants.{Holds, Fails}
 use Rattle.condition.specs.Conditions.{condition_of}
 use Rattle.define.specs.Define.{Definition, sets, fails, definition_of}
 use Rattle.groups.specs.Rules.{DEFINED}
@@ -88,11 +90,11 @@ module _ (t : List ℕ) (δ : Dialect) where
         by true = refl
         by false = refl
 
-    closing_means : (around : Bool) (c : Condition) → Means own (l ∷ []) (closing around c own)
+    closing_means : (around : Bool) (c : Answered Condition Fault) → Means own (l ∷ []) (closing around c own)
     closing_means false c = refl
-    closing_means true (Holds n) = refl
-    closing_means true (Fails n) = refl
-    closing_means true (Refused x) = tt
+    closing_means true (Ok (Holds n)) = refl
+    closing_means true (Ok (Fails n)) = refl
+    closing_means true (Err x) = tt
 
     module _ (in_body in-others : List (List ℕ)) (body others : Bool → List Own → Meaning)
         (body-means : (b : Bool) (a : List Own) → Means a in_body (body b a)) (others-mean : (b : Bool) (a : List Own) → Means a in-others (others b a)) where
@@ -103,11 +105,12 @@ module _ (t : List ℕ) (δ : Dialect) where
           let more = means_then own (l ∷ []) in_body first (body b) h (body-means b) in
           means_then own (l ∷ in_body) in-others (first then body b) (others e) more (others-mean e)
 
-      branch_means : (read : Bool) (c : Condition) (earlier : Bool) → Means own (l ∷ (in_body ++ in-others)) (branch read c earlier own body others)
+      branch_means : (read : Bool) (c : Answered Condition Fault) (earlier : Bool)
+          → Means own (l ∷ (in_body ++ in-others)) (branch read c earlier own body others)
       branch_means false c earlier = after 2 0 false earlier refl
-      branch_means true (Holds n) earlier = after 4 n true true refl
-      branch_means true (Fails n) earlier = after 3 n false earlier refl
-      branch_means true (Refused x) earlier = tt
+      branch_means true (Ok (Holds n)) earlier = after 4 n true true refl
+      branch_means true (Ok (Fails n)) earlier = after 3 n false earlier refl
+      branch_means true (Err x) earlier = tt
 
   mutual
     unfolding meaning
@@ -119,7 +122,7 @@ module _ (t : List ℕ) (δ : Dialect) where
         means_then own (l ∷ []) (lines_of bs) (plain t own around l δ) (λ a. meaning t a around bs δ) (plain_means own l around)
         (λ a. blocks_lead bs around a)
     blocks_lead (group l body os bs) around own =
-        let c : Condition = condition_of (scope own t) (directive_of l) l δ in
+        let c : Answered Condition Fault = condition_of (scope own t) (directive_of l) l δ in
         let first : Meaning = branch around c false own (λ b a. meaning t a b body δ) (λ e a. branches t a around e os δ) in
         rw (← append_assoc (lines_of body) (lines_in os) (lines_of bs))
         (means_then own (l ∷ (lines_of body ++ lines_in os)) (lines_of bs) first (λ a. meaning t a around bs δ)

@@ -7,24 +7,23 @@ use mathlib.Core.List.{List, [], ◌∷◌}
 use lib.ListN.{length}
 use lib.Dec.{eqb}
 use borrow.Author.Tests.{lt-leb, ne_eqb}
+use Rattle.std.specs.Prelude.{Ok, Err, Result}
 use Rattle.units.specs.declared.Dialect.{Dialect}
 use Rattle.units.specs.declared.Fault.{Fault}
-use Rattle.text.specs.Bytes.{pick}
 use Rattle.text.proofs.Laws.{and_left}
 use Rattle.own.specs.Own.{Own, scope}
 use Rattle.line.specs.Directives.{is_define, directive_of}
 use Rattle.line.specs.declared.Directive.{Directive}
-use Rattle.line.specs.declared.Directive.TheVariants.{Plain, If, Ifdef, Ifndef, Elseif, Else, Endif, Unknown}
+use Rattle.line.specs.declared.Directive.TheVariants.{Plain, If, Ifdef, Ifndef}
 use Rattle.condition.specs.Conditions.{condition_of}
 use Rattle.line.specs.declared.Condition.{Condition}
-use Rattle.line.specs.declared.Condition.TheVariants.{Holds, Fails, Refused}
+use Rattle.line.specs.declared.Condition.TheVariants.{Holds, Fails}
 use Rattle.line.proofs.DefineLine.{define_plain}
 use Rattle.define.specs.Define.{Definition, sets, fails, definition_of}
-use Rattle.groups.specs.Rules.{MAX_GROUPS, first_branch, opening, plan, settled}
+use Rattle.groups.specs.Rules.{MAX_GROUPS, first_branch, opening, plan, settled, read_if}
 use Rattle.groups.specs.Groups.{Group, group, innermost, State, state, Outcome, go, stop}
 use Rattle.groups.specs.declared.Flags.{Flags}
 use Rattle.groups.specs.declared.Transition.TheVariants.{Push}
-use Rattle.groups.specs.declared.Plan.TheVariants.{Read, Unread}
 use Rattle.select.specs.Step.{planned, decided, defines, defined, step}
 use Rattle.select.proofs.Steps.{defined_step, decided_step, other_line}
 use Rattle.blocks.specs.Blocks.{opens}
@@ -45,22 +44,18 @@ abbrev pub flagged : (around earlier taken last : Bool) → Flags
 flagged a e b l = record { around = a; earlier = e; taken = b; last = l }
 
 -- a line that opens a group, by whether the branch around its group is taken and by its condition
-abbrev pub begun : Bool → Condition → (n k : ℕ) → List Group → List Own → Outcome
+abbrev pub begun : Bool → Result Condition Fault → (n k : ℕ) → List Group → List Own → Outcome
 begun false c n k gs own = go 2 (state (group (first_branch false false) n ∷ gs) (k + 0) own)
-begun true (Holds j) n k gs own = go 4 (state (group (first_branch true true) n ∷ gs) (k + j) own)
-begun true (Fails j) n k gs own = go 3 (state (group (first_branch true false) n ∷ gs) (k + j) own)
-begun true (Refused x) n k gs own = stop x
+begun true (Ok (Holds j)) n k gs own = go 4 (state (group (first_branch true true) n ∷ gs) (k + j) own)
+begun true (Ok (Fails j)) n k gs own = go 3 (state (group (first_branch true false) n ∷ gs) (k + j) own)
+begun true (Err x) n k gs own = stop x
 
 -- the words that open a group have the same rules
 pub opens_alike : (d : Directive) → opens d ≡ true → (R : Directive → Type 0) → R If → R Ifdef → R Ifndef → R d
-opens_alike Plain o R x y z = absurd (false≢true o)
 opens_alike If o R x y z = x
 opens_alike Ifdef o R x y z = y
 opens_alike Ifndef o R x y z = z
-opens_alike Elseif o R x y z = absurd (false≢true o)
-opens_alike Else o R x y z = absurd (false≢true o)
-opens_alike Endif o R x y z = absurd (false≢true o)
-opens_alike Unknown o R x y z = absurd (false≢true o)
+opens_alike _ o R x y z = absurd (false≢true o)
 
 -- the plan of such a word, and what it does if it is read
 pub opens_plan : (d : Directive) → opens d ≡ true → (gs : List Group) → plan d (innermost gs) ≡ opening (innermost gs)
@@ -72,15 +67,15 @@ unfolding settled
 opens_settled d o f b = opens_alike d o (λ d. settled d f b ≡ settled If f b) refl refl refl
 
 module _ (d : Directive) (o : opens d ≡ true) (n k : ℕ) (gs : List Group) (own : List Own) where
-  planned_begun : (b : Bool) (c : Condition)
-      → planned (pick b Read (Unread (Push 2 (first_branch false false)))) d c n (state gs k own) ≡ begun b c n k gs own
+  planned_begun : (b : Bool) (c : Result Condition Fault)
+      → planned (read_if b (Push 2 (first_branch false false))) d c n (state gs k own) ≡ begun b c n k gs own
   unfolding settled
   planned_begun false c = refl
-  planned_begun true (Holds j) = rw (opens_settled d o (innermost gs).flags true)
-  planned_begun true (Fails j) = rw (opens_settled d o (innermost gs).flags false)
-  planned_begun true (Refused x) = refl
+  planned_begun true (Ok (Holds j)) = rw (opens_settled d o (innermost gs).flags true)
+  planned_begun true (Ok (Fails j)) = rw (opens_settled d o (innermost gs).flags false)
+  planned_begun true (Err x) = refl
 
-  decided_begun : (c : Condition) → length gs < 16 → decided d c n (state gs k own) ≡ begun (live gs) c n k gs own
+  decided_begun : (c : Result Condition Fault) → length gs < 16 → decided d c n (state gs k own) ≡ begun (live gs) c n k gs own
   decided_begun c h = rw (opens_plan d o gs, depth_length gs, lt-leb MAX_GROUPS (length gs) h) (planned_begun (live gs) c)
 
 -- a word that opens a group is not that of a plain line
@@ -106,7 +101,7 @@ pub defines_plain : (s : State) (l : List ℕ) → defines s l ≡ true → dire
 defines_plain s l h = define_plain l (and_left (is_define l) _ h)
 
 defined_stop : (d : Definition) (s : State) (x : Fault) → defined d s ≡ stop x → d ≡ fails x
-defined_stop (sets y k) s x e = let z : ◌≡◌ {A = ℕ} 0 1 = cc in absurd (omega arith)
+defined_stop (sets y k) s x e = absurd cc
 defined_stop (fails y) s x e = let z : y ≡ x = cc in ap fails z
 
 pub define_stops : (t : List ℕ) (δ : Dialect) (n : ℕ) (s : State) (l : List ℕ) (x : Fault) → length l ≤ 1024 → defines s l ≡ true

@@ -59,7 +59,7 @@ module _ (t : List ℕ) (δ : Dialect) where
       on : (k : ℕ) (s' : State) → step t n s l δ ≡ go k s' → (z : Result) → run t (n + 1) s' ls δ ≡ z → prepend k z ≡ refused x m
           → (run t (n + 1) s' ls δ ≡ refused x m → Stopped t δ (n + 1) s' ls x m ⊎ Ended t δ (n + 1) s' ls x m)
           → Stopped t δ n s (l ∷ ls) x m ⊎ Ended t δ n s (l ∷ ls) x m
-      on k s' q (accepted ms c) p e ih = let z : ◌≡◌ {A = ℕ} 0 1 = cc in absurd (omega arith)
+      on k s' q (accepted ms c) p e ih = absurd cc
       on k s' q (refused a b) p e ih = later l ls n s x m k s' q (ih (p ∙ e))
 
       by : (o : Outcome) → step t n s l δ ≡ o → after o n (λ s'. run t (n + 1) s' ls δ) ≡ refused x m

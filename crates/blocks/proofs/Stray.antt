@@ -5,8 +5,11 @@ use mathlib.Core.Path.{◌≡◌, refl, sym, ◌∙◌}
 use mathlib.Core.Bool.{Bool, true, false}
 use mathlib.Core.List.{List, [], ◌∷◌, ◌++◌, append_assoc, append-nil}
 use lib.ListN.{length}
+use Rattle.std.specs.Prelude.{Result}
 use Rattle.units.specs.declared.Dialect.{Dialect}
 use Rattle.units.specs.Refusals.{unplaced}
+use Rattle.units.specs.declared.Fault.{Fault}
+use Rattle.units.specs.declared.Reason.TheVariants.{DirectiveStray}
 use Rattle.own.specs.Own.{Own, scope}
 use Rattle.line.specs.Directives.{directive_of}
 use Rattle.line.specs.declared.Directive.{Directive}
@@ -52,19 +55,19 @@ moves_can (enter {d} {fs} o) = by d o
     by If o = tt
     by Ifdef o = tt
     by Ifndef o = tt
-    by Elseif o = let z : ◌≡◌ {A = ℕ} 0 1 = cc in absurd (omega arith)
-    by Else o = let z : ◌≡◌ {A = ℕ} 0 1 = cc in absurd (omega arith)
-    by Endif o = let z : ◌≡◌ {A = ℕ} 0 1 = cc in absurd (omega arith)
+    by Elseif o = absurd cc
+    by Else o = absurd cc
+    by Endif o = absurd cc
     by Unknown o = tt
 moves_can turn = tt
 moves_can final = tt
 moves_can leave = tt
 
 -- any other line is refused with 19, for any condition
-module _ (c : Condition) (n k : ℕ) (own : List Own) (R : Type 0) where
+module _ (c : Result Condition Fault) (n k : ℕ) (own : List Own) (R : Type 0) where
   before_else : (d : Directive) (g : Group) (gs : List Group) → (hs : List Bool) → Moves d (false ∷ flags gs) hs
-      → (g.flags.last ≡ true → decided d c n (state (g ∷ gs) k own) ≡ stop (unplaced 19))
-      → ((hs : List Bool) → Moves d (flags (g ∷ gs)) hs → R) → (decided d c n (state (g ∷ gs) k own) ≡ stop (unplaced 19) → R) → R
+      → (g.flags.last ≡ true → decided d c n (state (g ∷ gs) k own) ≡ stop (unplaced DirectiveStray))
+      → ((hs : List Bool) → Moves d (flags (g ∷ gs)) hs → R) → (decided d c n (state (g ∷ gs) k own) ≡ stop (unplaced DirectiveStray) → R) → R
   before_else d g gs hs v s f h = by g.flags.last refl
     where
       by : (b : Bool) → g.flags.last ≡ b → R
@@ -72,7 +75,7 @@ module _ (c : Condition) (n k : ℕ) (own : List Own) (R : Type 0) where
       by false e = f hs (rw e v)
 
   pub move_or_stray : (d : Directive) → (d ≡ Unknown → ⊥) → (gs : List Group) → ((hs : List Bool) → Moves d (flags gs) hs → R)
-      → (decided d c n (state gs k own) ≡ stop (unplaced 19) → R) → R
+      → (decided d c n (state gs k own) ≡ stop (unplaced DirectiveStray) → R) → R
   unfolding plan
   move_or_stray Plain u gs f g = f (flags gs) stay
   move_or_stray If u gs f g = f (false ∷ flags gs) (enter refl)
@@ -103,21 +106,21 @@ module _ (t : List ℕ) (δ : Dialect) (ls : List (List ℕ)) (s : State) (p : P
   moves_begins l gs m = walk_begins (ls ++ (l ∷ [])) gs (walk_append ls (l ∷ []) [] (flags s.groups) gs walked (gs, m, refl))
 
   module _ (n : ℕ) (l : List ℕ) (short : length l ≤ 1024) where
-    pub not_both : step t n s l δ ≡ stop (unplaced 19) → Begins (ls ++ (l ∷ [])) → ⊥
+    pub not_both : step t n s l δ ≡ stop (unplaced DirectiveStray) → Begins (ls ++ (l ∷ [])) → ⊥
     not_both e b = by (defines s l) refl
       where
         by : (a : Bool) → defines s l ≡ a → ⊥
-        by true f = define_never_own s.own t l δ 19 (omega arith) (omega arith) (define_stops t δ n s l (unplaced 19) short f e)
+        by true f = define_never_own s.own t l δ DirectiveStray (omega arith) (omega arith) (define_stops t δ n s l (unplaced DirectiveStray) short f e)
         by false f =
             let m = begins_moves l b in
             let w = decided_moves (directive_of l) (said t δ n s l) n s.count s.own s.groups in
-            let g : Moving (said t δ n s l) (directive_of l) n s.groups (stop (unplaced 19)) = rw (sym (decided_step t δ n s l short f) ∙ e) at w in
-            g (never_own (scope s.own t) δ (directive_of l) l 19 (omega arith) (omega arith)) (moves_can m.1) refl
+            let g : Moving (said t δ n s l) (directive_of l) n s.groups (stop (unplaced DirectiveStray)) = rw (sym (decided_step t δ n s l short f) ∙ e) at w in
+            g (never_own (scope s.own t) δ (directive_of l) l DirectiveStray (omega arith) (omega arith)) (moves_can m.1) refl
 
-    pub refuses : (directive_of l ≡ Unknown → ⊥) → (Begins (ls ++ (l ∷ [])) → ⊥) → step t n s l δ ≡ stop (unplaced 19)
+    pub refuses : (directive_of l ≡ Unknown → ⊥) → (Begins (ls ++ (l ∷ [])) → ⊥) → step t n s l δ ≡ stop (unplaced DirectiveStray)
     refuses known h = by (defines s l) refl
       where
-        by : (a : Bool) → defines s l ≡ a → step t n s l δ ≡ stop (unplaced 19)
+        by : (a : Bool) → defines s l ≡ a → step t n s l δ ≡ stop (unplaced DirectiveStray)
         by true f = let w : directive_of l ≡ Plain = defines_plain s l f in absurd (h (moves_begins l (flags s.groups) (rw w stay)))
         by false f =
             decided_step t δ n s l short f

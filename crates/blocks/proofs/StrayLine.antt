@@ -7,30 +7,31 @@ use mathlib.Core.List.{List, [], ◌∷◌, ◌++◌}
 use lib.ListN.{length}
 use Rattle.units.specs.declared.Fault.{Fault}
 use Rattle.units.specs.Refusals.{unplaced}
+use Rattle.units.specs.declared.Reason.TheVariants.{DirectiveStray, FileUnfinished, LineLong}
 use Rattle.groups.specs.Groups.{Group, stop}
 use Rattle.select.specs.Select.{refused, at_end, start}
 use Rattle.select.proofs.Steps.{short_step}
 use Rattle.blocks.specs.Beginnings.{Begins}
-use Rattle.blocks.proofs.Numbers.{same_number}
+use Rattle.blocks.proofs.Reasons.{same_reason}
 use Rattle.blocks.proofs.Passing.{StrayLine}
 use Rattle.blocks.proofs.Stops.{Stopped, Ended, refused_where}
 use Rattle.blocks.proofs.Stray.{not_both, stray}
 
 -- at the end of all lines a run is refused only with 21
-pub at_end_lem : (gs : List Group) (c : ℕ) (x : Fault) (m : ℕ) → at_end gs c ≡ refused x m → x ≡ unplaced 21
-at_end_lem [] c x m e = let z : ◌≡◌ {A = ℕ} 0 1 = cc in absurd (omega arith)
+pub at_end_lem : (gs : List Group) (c : ℕ) (x : Fault) (m : ℕ) → at_end gs c ≡ refused x m → x ≡ unplaced FileUnfinished
+at_end_lem [] c x m e = absurd cc
 at_end_lem (g ∷ gs) c x m e = cc
 
 pub stray_line : StrayLine
-stray_line t δ ls n e = by (refused_where t δ ls 1 start (unplaced 19) n e)
+stray_line t δ ls n e = by (refused_where t δ ls 1 start (unplaced DirectiveStray) n e)
   where
-    by : Stopped t δ 1 start ls (unplaced 19) n ⊎ Ended t δ 1 start ls (unplaced 19) n
+    by : Stopped t δ 1 start ls (unplaced DirectiveStray) n ⊎ Ended t δ 1 start ls (unplaced DirectiveStray) n
         → (before : List (List ℕ)) × (l : List ℕ) × (rest : List (List ℕ)) × (ls ≡ before ++ (l ∷ rest)) × (n ≡ length before + 1)
         × Begins before × (Begins (before ++ (l ∷ [])) → ⊥)
     by (inl w) =
         let short =
-        short_step t δ n w.state w.at (stop (unplaced 19)) w.stops
-        (λ q. let z : unplaced 19 ≡ unplaced 17 = cc in omega (arith, same_number z)) in
+        short_step t δ n w.state w.at (stop (unplaced DirectiveStray)) w.stops
+        (λ q. let z : unplaced DirectiveStray ≡ unplaced LineLong = cc in let k = same_reason z in cc) in
         let v = w.number in (
           w.before,
           w.at,
@@ -40,4 +41,4 @@ stray_line t δ ls n e = by (refused_where t δ ls 1 start (unplaced 19) n e)
           (stray t δ w.before w.state w.passes).0,
           not_both t δ w.before w.state w.passes n w.at short w.stops,
         )
-    by (inr w) = absurd (omega (arith, same_number (at_end_lem w.state.groups w.state.count (unplaced 19) n w.unclosed)))
+    by (inr w) = absurd (cc (same_reason (at_end_lem w.state.groups w.state.count (unplaced DirectiveStray) n w.unclosed)))

@@ -2,15 +2,18 @@
 -- refused with whatever their text is. Assumes nothing.
 use Prim.Native.Nat.{ℕ, ◌≤◌}
 use native.Mathlib.Omega.{arith}
-use mathlib.Core.Path.{◌≡◌, refl, sym, ◌∙◌}
+use mathlib.Core.Path.{◌≡◌, refl}
 use mathlib.Core.Bool.{Bool, true, false, not, ◌||◌, false≢true}
 use mathlib.Core.List.{List}
 use lib.ListN.{drop}
 use lib.Dec.{eqb}
-use borrow.Author.Tests.{le-leb, lt-leb, ne_eqb}
-use Rattle.units.specs.Refusals.{EXPRESSION_LONG, BAR_OUTSIDE, DIVISOR_ZERO, CONDITION_VALUE, TEXT_MALFORMED, fault_at, unplaced}
+use Rattle.std.specs.Prelude.{Ok, Err, Result}
+use Rattle.units.specs.Refusals.{BAR_OUTSIDE, CONDITION_VALUE, TEXT_MALFORMED, reason_number, fault_at, unplaced}
 use Rattle.units.specs.Dialects.{in_directives}
 use Rattle.units.specs.declared.Dialect.{Dialect}
+use Rattle.units.specs.declared.Fault.{Fault}
+use Rattle.units.specs.declared.Reason.{Reason}
+use Rattle.units.specs.declared.Reason.TheVariants.{BarOutside, TextMalformed}
 use Rattle.text.specs.Bytes.{pick}
 use Rattle.text.specs.Runs.{span}
 use Rattle.text.specs.declared.runs.Set.TheVariants.{Blanks}
@@ -25,27 +28,21 @@ use Rattle.line.specs.declared.Directive.TheVariants.{Plain, If, Ifdef, Ifndef, 
 use Rattle.condition.specs.Conditions.{spaced, idle, of_answer, of_expression, name_at, alone, present, of_named, of_macro, evaluate}
 use Rattle.condition.specs.Conditions.{in_line, condition_of}
 use Rattle.line.specs.declared.Condition.{Condition}
-use Rattle.line.specs.declared.Condition.TheVariants.{Holds, Fails, Refused}
+use Rattle.line.specs.declared.Condition.TheVariants.{Holds, Fails}
 use Rattle.condition.specs.declared.macros.Named.{Named}
 
 abbrev pub from_text : ℕ → Bool
 from_text r = from_expression r || (eqb r CONDITION_VALUE || eqb r TEXT_MALFORMED)
 
 pub not_of_lines : (r : ℕ) → from_text r ≡ true → 17 ≤ r → r ≤ 21 → ⊥
-not_of_lines r h a b =
-    let high = le-leb EXPRESSION_LONG r (omega arith) in
-    let low = lt-leb r DIVISOR_ZERO (omega arith) in
-    let other = ne_eqb r CONDITION_VALUE (λ e. omega arith) in
-    let another = ne_eqb r TEXT_MALFORMED (λ e. omega arith) in
-    false≢true (sym (rw (high, low, other, another)) ∙ h)
+not_of_lines r h a b = grind arith
 
 pub not_of_bars : (r : ℕ) → from_text r ≡ true → r ≡ BAR_OUTSIDE → ⊥
 not_of_bars r h e = let z : from_text BAR_OUTSIDE ≡ true = rw e at h in false≢true z
 
-abbrev pub InCondition : Condition → Type 0
-InCondition (Holds n) = Unit
-InCondition (Fails n) = Unit
-InCondition (Refused x) = from_text x.number ≡ true
+abbrev pub InCondition : Result Condition Fault → Type 0
+InCondition (Ok c) = Unit
+InCondition (Err x) = from_text (reason_number x.reason) ≡ true
 
 of_answer_lem : (x : Evaluation) → InAnswer x → InCondition (of_answer x)
 unfolding of_answer
@@ -72,7 +69,7 @@ in_name t δ wanted s =
     let m = drop (span Blanks s) s in
     pick_case InCondition (spaced s) (λ _. in_named t wanted m (name_at m δ)) (λ _. refl)
 
-in_nothing : (s : List ℕ) → InCondition (pick (idle s) (Holds 0) (Refused (unplaced 22)))
+in_nothing : (s : List ℕ) → InCondition (pick (idle s) (Ok (Holds 0)) (Err (unplaced TextMalformed)))
 in_nothing s = pick_case InCondition (idle s) (λ _. tt) (λ _. refl)
 
 pub in_condition : (t : List ℕ) (δ : Dialect) (d : Directive) (s : List ℕ) → InCondition (evaluate t d s δ)
@@ -87,19 +84,20 @@ in_condition t δ Endif s = in_nothing s
 in_condition t δ Unknown s = tt
 
 -- the place in the line does not change the number
-in_place : (p : ℕ) (c : Condition) → InCondition c → InCondition (in_line p c)
-in_place p (Holds n) h = tt
-in_place p (Fails n) h = tt
-in_place p (Refused x) h = h
+in_place : (p : ℕ) (c : Result Condition Fault) → InCondition c → InCondition (in_line p c)
+in_place p (Ok (Holds n)) h = tt
+in_place p (Ok (Fails n)) h = tt
+in_place p (Err x) h = h
 
 pub in_line_lem : (t : List ℕ) (δ : Dialect) (d : Directive) (l : List ℕ) → InCondition (condition_of t d l δ)
 in_line_lem t δ d l = in_place (text_start l) (evaluate t d (text_of l) δ) (in_condition t δ d (text_of l))
 
-pub never_own : (t : List ℕ) (δ : Dialect) (d : Directive) (l : List ℕ) (r : ℕ) → 17 ≤ r → r ≤ 21 → condition_of t d l δ ≡ Refused (unplaced r) → ⊥
-never_own t δ d l r a b e = let h : InCondition (Refused (unplaced r)) = rw e at (in_line_lem t δ d l) in not_of_lines r h a b
+pub never_own : (t : List ℕ) (δ : Dialect) (d : Directive) (l : List ℕ) (r : Reason)
+    → 17 ≤ reason_number r → reason_number r ≤ 21 → condition_of t d l δ ≡ Err (unplaced r) → ⊥
+never_own t δ d l r a b e = let h : InCondition (Err (unplaced r)) = rw e at (in_line_lem t δ d l) in not_of_lines (reason_number r) h a b
 
 -- no directive is refused for a bar
-pub never_bar : (t : List ℕ) (d : Directive) (s : List ℕ) (δ : Dialect) (o : ℕ) → evaluate t d s δ ≡ Refused (fault_at BAR_OUTSIDE o) → ⊥
+pub never_bar : (t : List ℕ) (d : Directive) (s : List ℕ) (δ : Dialect) (o : ℕ) → evaluate t d s δ ≡ Err (fault_at BarOutside o) → ⊥
 never_bar t d s δ o e =
-    let h : InCondition (Refused (fault_at BAR_OUTSIDE o)) = rw e at (in_condition t δ d s) in
+    let h : InCondition (Err (fault_at BarOutside o)) = rw e at (in_condition t δ d s) in
     not_of_bars BAR_OUTSIDE h refl

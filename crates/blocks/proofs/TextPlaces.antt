@@ -8,6 +8,7 @@ use mathlib.Core.List.{List}
 use lib.ListN.{length, get_or, drop, length-drop}
 use lib.Dec.{eqb}
 use borrow.Author.Tests.{eqb-true, eqb-false}
+use Rattle.std.specs.Prelude.{Ok, Err, Result}
 use Rattle.units.specs.Refusals.{placed}
 use Rattle.units.specs.Dialects.{in_directives}
 use Rattle.units.specs.declared.Dialect.{Dialect}
@@ -25,20 +26,19 @@ use Rattle.line.specs.Directives.{text_start, text_of, directive_of}
 use Rattle.line.specs.declared.Directive.{Directive}
 use Rattle.line.specs.declared.Directive.TheVariants.{Plain, If, Ifdef, Ifndef, Elseif, Else, Endif, Unknown}
 use Rattle.line.specs.declared.Condition.{Condition}
-use Rattle.line.specs.declared.Condition.TheVariants.{Holds, Fails, Refused}
+use Rattle.line.specs.declared.Condition.TheVariants.{Holds, Fails}
 use Rattle.line.proofs.Words.{bang_inside, plain_line, word_inside, text_starts}
 use Rattle.condition.specs.Conditions.{spaced, idle, of_answer, of_expression, name_at, alone, present, of_named, of_macro, evaluate, in_line, condition_of}
 use Rattle.condition.specs.declared.macros.Named.{Named}
 use Rattle.condition.proofs.PlaceWithin.{place_within}
 use Rattle.groups.specs.Groups.{State}
 use Rattle.blocks.specs.Offsets.{condition, PlacedIn}
-use Rattle.blocks.proofs.Numbers.{same_number}
+use Rattle.blocks.proofs.Reasons.{same_reason}
 
 -- a condition whose refusal has no place in the text
-abbrev BareCondition : Condition → Type 0
-BareCondition (Holds n) = Unit
-BareCondition (Fails n) = Unit
-BareCondition (Refused y) = placed y.number ≡ false
+abbrev BareCondition : Result Condition Fault → Type 0
+BareCondition (Ok c) = Unit
+BareCondition (Err y) = placed y.reason ≡ false
 
 named_bare : (t : List ℕ) (wanted : Bool) (s : List ℕ) (n : Named) → BareCondition (of_named t wanted s n)
 unfolding of_named
@@ -58,12 +58,11 @@ nothing_bare t δ s = pick_case BareCondition (idle s) (λ _. tt) (λ _. refl)
 
 -- the refusal with a place is that of the answer
 abbrev Answered : Evaluation → Fault → Type 0
-Answered x y = (r : Refusal) × (x ≡ refused r) × (r.number ≡ y.number) × (r.offset.0 ≡ y.at.0)
+Answered x y = (r : Refusal) × (x ≡ refused r) × (r.reason ≡ y.reason) × (r.offset.0 ≡ y.at.0)
 
-abbrev FromAnswer : Evaluation → Condition → Type 0
-FromAnswer x (Holds n) = Unit
-FromAnswer x (Fails n) = Unit
-FromAnswer x (Refused y) = placed y.number ≡ true → Answered x y
+abbrev FromAnswer : Evaluation → Result Condition Fault → Type 0
+FromAnswer x (Ok c) = Unit
+FromAnswer x (Err y) = placed y.reason ≡ true → Answered x y
 
 of_answer_lem : (x : Evaluation) → FromAnswer x (of_answer x)
 unfolding of_answer
@@ -78,20 +77,20 @@ of_answer_lem (refused r) = λ h. (r, refl, refl, refl)
 abbrev Expressed : (t : List ℕ) → Directive → List ℕ → Dialect → Fault → Type 0
 Expressed t d s δ y = ((d ≡ If) ⊎ (d ≡ Elseif)) × Answered (evaluation_in (over s t) (in_directives δ)) y
 
-module _ (t s : List ℕ) (δ : Dialect) (y : Fault) (h : placed y.number ≡ true) where
-  expressed : of_expression t s δ ≡ Refused y → Answered (evaluation_in (over s t) (in_directives δ)) y
+module _ (t s : List ℕ) (δ : Dialect) (y : Fault) (h : placed y.reason ≡ true) where
+  expressed : of_expression t s δ ≡ Err y → Answered (evaluation_in (over s t) (in_directives δ)) y
   unfolding of_expression
   expressed e =
       let x : Evaluation = evaluation_in (over s t) (in_directives δ) in
       let g : FromAnswer x (of_expression t s δ) =
       pick_case (FromAnswer x) (spaced s) (λ _. of_answer_lem x) (λ _ i. absurd (false≢true i)) in
-      let k : FromAnswer x (Refused y) = rw e at g in
+      let k : FromAnswer x (Err y) = rw e at g in
       k h
 
-  bare : (A : Type 0) (c : Condition) → BareCondition c → c ≡ Refused y → A
-  bare A c g e = let k : BareCondition (Refused y) = rw e at g in absurd (false≢true (sym k ∙ h))
+  bare : (A : Type 0) (c : Result Condition Fault) → BareCondition c → c ≡ Err y → A
+  bare A c g e = let k : BareCondition (Err y) = rw e at g in absurd (false≢true (sym k ∙ h))
 
-  from_text : (d : Directive) → evaluate t d s δ ≡ Refused y → Expressed t d s δ y
+  from_text : (d : Directive) → evaluate t d s δ ≡ Err y → Expressed t d s δ y
   unfolding evaluate
   from_text If e = (inl refl, expressed e)
   from_text Elseif e = (inr refl, expressed e)
@@ -99,22 +98,22 @@ module _ (t s : List ℕ) (δ : Dialect) (y : Fault) (h : placed y.number ≡ tr
   from_text Ifndef e = bare _ (of_macro t false s δ) (macro_bare t δ false s) e
   from_text Else e = bare _ (evaluate t Else s δ) (nothing_bare t δ s) e
   from_text Endif e = bare _ (evaluate t Endif s δ) (nothing_bare t δ s) e
-  from_text Plain e = let z : ◌≡◌ {A = ℕ} 0 1 = cc in absurd (omega arith)
-  from_text Unknown e = let z : ◌≡◌ {A = ℕ} 0 1 = cc in absurd (omega arith)
+  from_text Plain e = absurd cc
+  from_text Unknown e = absurd cc
 
 -- a refused condition in its line, by that in the text
-record InText (p : ℕ) (c : Condition) (x : Fault) : Type 0 where
+record InText (p : ℕ) (c : Result Condition Fault) (x : Fault) : Type 0 where
   inner : Fault
-  refused : c ≡ Refused inner
-  number : inner.number ≡ x.number
-  at : x.at.0 ≡ pick (placed inner.number) (p + inner.at.0) 0
+  refused : c ≡ Err inner
+  reason : inner.reason ≡ x.reason
+  at : x.at.0 ≡ pick (placed inner.reason) (p + inner.at.0) 0
 
-in_text : (p : ℕ) (c : Condition) (x : Fault) → in_line p c ≡ Refused x → InText p c x
-in_text p (Holds n) x e = let z : ◌≡◌ {A = ℕ} 0 1 = cc in absurd (omega arith)
-in_text p (Fails n) x e = let z : ◌≡◌ {A = ℕ} 0 1 = cc in absurd (omega arith)
-in_text p (Refused y) x e =
-    let q : record { number = y.number; at = record { 0 = pick (placed y.number) (p + y.at.0) 0 } } ≡ x = cc in
-    record { inner = y; refused = refl; number = same_number q; at = ap (λ (z : Fault). z.at.0) (sym q) }
+in_text : (p : ℕ) (c : Result Condition Fault) (x : Fault) → in_line p c ≡ Err x → InText p c x
+in_text p (Ok (Holds n)) x e = absurd cc
+in_text p (Ok (Fails n)) x e = absurd cc
+in_text p (Err y) x e =
+    let q : record { reason = y.reason; at = record { 0 = pick (placed y.reason) (p + y.at.0) 0 } } ≡ x = cc in
+    record { inner = y; refused = refl; reason = same_reason q; at = ap (λ (z : Fault). z.at.0) (sym q) }
 
 -- the text after the word of a directive starts within the line
 text_inside : (l : List ℕ) → (directive_of l ≡ Plain → ⊥) → text_start l ≤ length l
@@ -128,24 +127,23 @@ text_inside l h = by (eqb (get_or l (span Blanks l) 0) (byte "!")) refl
     by false e = absurd (h (plain_line l at (eqb-false _ _ e)))
 
 conditional_other : (d : Directive) → (d ≡ If) ⊎ (d ≡ Elseif) → d ≡ Plain → ⊥
-conditional_other d (inl e) q = let z : ◌≡◌ {A = ℕ} 0 1 = cc in omega arith
-conditional_other d (inr e) q = let z : ◌≡◌ {A = ℕ} 0 1 = cc in omega arith
+conditional_other d h q = grind arith
 
-module _ (t : List ℕ) (s : State) (l : List ℕ) (δ : Dialect) (x : Fault) (e : condition_of (scope s.own t) (directive_of l) l δ ≡ Refused x) where
+module _ (t : List ℕ) (s : State) (l : List ℕ) (δ : Dialect) (x : Fault) (e : condition_of (scope s.own t) (directive_of l) l δ ≡ Err x) where
   abbrev known : List ℕ
   known = scope s.own t
 
   inside : InText (text_start l) (evaluate known (directive_of l) (text_of l) δ) x
   inside = in_text (text_start l) (evaluate known (directive_of l) (text_of l) δ) x e
 
-  pub bare_place : placed x.number ≡ false → x.at.0 ≡ 0
+  pub bare_place : placed x.reason ≡ false → x.at.0 ≡ 0
   bare_place h =
-      let k : placed inside.inner.number ≡ false = ap placed inside.number ∙ h in
+      let k : placed inside.inner.reason ≡ false = ap placed inside.reason ∙ h in
       inside.at ∙ rw k
 
-  pub placed_place : placed x.number ≡ true → PlacedIn t s l x δ
+  pub placed_place : placed x.reason ≡ true → PlacedIn t s l x δ
   placed_place h =
-      let k : placed inside.inner.number ≡ true = ap placed inside.number ∙ h in
+      let k : placed inside.inner.reason ≡ true = ap placed inside.reason ∙ h in
       let w = from_text known (text_of l) δ inside.inner k (directive_of l) inside.refused in
       let r = w.1 in
       let place : x.at.0 ≡ text_start l + inside.inner.at.0 = inside.at ∙ rw k in
@@ -158,7 +156,7 @@ module _ (t : List ℕ) (s : State) (l : List ℕ) (δ : Dialect) (x : Fault) (e
         expression = condition w.0;
         refusal = r.0;
         answered = r.1;
-        number = r.2 ∙ inside.number;
+        number = r.2 ∙ inside.reason;
         place = place ∙ ap (λ i. text_start l + i) (sym r.3);
         within = omega (arith, length-drop (text_start l) l);
       }

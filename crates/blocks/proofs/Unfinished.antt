@@ -7,6 +7,7 @@ use mathlib.Core.List.{List, [], ◌∷◌, ◌++◌, append_assoc, append-nil}
 use lib.ListN.{length, length-append, drop}
 use Rattle.units.specs.declared.Dialect.{Dialect}
 use Rattle.units.specs.Refusals.{unplaced}
+use Rattle.units.specs.declared.Reason.TheVariants.{FileUnfinished}
 use Rattle.line.specs.Directives.{directive_of}
 use Rattle.line.specs.declared.Directive.{Directive}
 use Rattle.line.specs.declared.Directive.TheVariants.{Endif}
@@ -177,7 +178,7 @@ unfinished t δ ls s p = by s.groups refl (passes_run t δ ls 1 start s p) (pass
     by : (gs : List Group) → s.groups ≡ gs → ((ms : List ℕ) × (run t 1 start ls δ ≡ onto ms (at_end s.groups s.count)))
         → Walk [] ls (flags s.groups) → Opened (flags s.groups) (starts s.groups) ls
         → (Whole ls → (ms : List ℕ) × (run t 1 start ls δ ≡ accepted ms s.count))
-        × ((Whole ls → ⊥) → (m : ℕ) × Innermost ls m × (run t 1 start ls δ ≡ refused (unplaced 21) m))
+        × ((Whole ls → ⊥) → (m : ℕ) × Innermost ls m × (run t 1 start ls δ ≡ refused (unplaced FileUnfinished) m))
     by [] e r w o = (
       λ _. (r.0 ++ [], r.1 ∙ rw e (onto_accepted r.0 [] s.count)),
       λ h. absurd (h (rest_whole (length ls) ls (rw append-nil at (walk_back (length ls) ls [] [] [] (omega arith) (rw e at w) (nothing_left (length ls)))))),
@@ -188,6 +189,6 @@ unfinished t δ ls s p = by s.groups refl (passes_run t δ ls 1 start s p) (pass
       λ h. (
         g.line,
         innermost g.flags.last g.line (Opened (flags gs) (starts gs)) ls (rw e at o),
-        r.1 ∙ rw e (onto_refused r.0 (unplaced 21) g.line),
+        r.1 ∙ rw e (onto_refused r.0 (unplaced FileUnfinished) g.line),
       ),
     )

@@ -6,9 +6,10 @@ use mathlib.Core.Path.{◌≡◌, refl, sym, ap, ◌∙◌}
 use mathlib.Core.Bool.{Bool, true, false}
 use mathlib.Core.List.{List, []}
 use lib.ListN.{length, get_or}
+use Rattle.std.specs.Prelude.{Some}
 use Rattle.units.specs.Dialects.{by_itself}
 use Rattle.units.specs.declared.Dialect.{Dialect}
-use Rattle.lookup.specs.Setting.{set_to, setting_under, record_under}
+use Rattle.lookup.specs.Setting.{setting_under, record_under}
 use Rattle.lookup.specs.declared.Place.{Place}
 use Rattle.lookup.specs.declared.TextKind.{TextKind}
 use Rattle.lookup.specs.declared.Value.TheVariants.{Number}
@@ -91,7 +92,7 @@ module _ (t : List ℕ) (δ : Dialect) (ls : List (List ℕ)) where
     answer = evaluation_in (over (expression_of (setting a s)) (with s)) (by_itself δ.old)
 
     -- THE SECOND THEOREM
-    pub number_stays : (v c : ℕ) → answer ≡ value (number v) c → v < 2 ^ 64 → setting_under (with s') (macro_of (setting a s)) ≡ set_to (Number v)
+    pub number_stays : (v c : ℕ) → answer ≡ value (number v) c → v < 2 ^ 64 → setting_under (with s') (macro_of (setting a s)) ≡ Some (Number v)
     number_stays = number_there s.own record_stays.0 record_stays.1 t (setting a s) δ record_stays.2 (with s') record_stays.3
 
     -- THE THIRD THEOREM

@@ -3,7 +3,8 @@
 -- two `!else` in a group that is not read, which derives no blocks (proofs/TwoElses.antt) and is refused.
 use Rattle.std.specs.Prelude.{ℕ, ◌≡◌, refl, Bool, true, false, List, [], ◌∷◌}
 use Rattle.units.specs.Dialects.{by_itself}
-use Rattle.units.specs.Refusals.{DIVISOR_ZERO, DIRECTIVE_STRAY, fault_at, unplaced}
+use Rattle.units.specs.Refusals.{fault_at, unplaced}
+use Rattle.units.specs.declared.Reason.TheVariants.{DirectiveStray, DivisorZero}
 use Rattle.text.specs.Bytes.{bytes, class_of}
 use Rattle.text.specs.Runs.{span}
 use Rattle.text.specs.Order.{compared}
@@ -84,7 +85,7 @@ pub meanings_hold : (old : Bool) → ◌≡◌ {A = List Meaning}
     ∷ meaning (setting "FOO" 61 2) [] true defined (by_itself old)
     ∷ [])
     (means (4 ∷ 1 ∷ 2 ∷ 0 ∷ 3 ∷ 0 ∷ 5 ∷ 1 ∷ []) 1 []
-    ∷ fault (fault_at DIVISOR_ZERO 10) 2
+    ∷ fault (fault_at DivisorZero 10) 2
     ∷ means (3 ∷ 2 ∷ 0 ∷ 2 ∷ 0 ∷ 2 ∷ 2 ∷ 4 ∷ 1 ∷ 5 ∷ []) 0 []
     ∷ means (6 ∷ 4 ∷ 6 ∷ 3 ∷ 0 ∷ 5 ∷ 4 ∷ 1 ∷ 5 ∷ []) 2 (of_number (bytes "A") 0 ∷ [])
     ∷ [])
@@ -104,7 +105,7 @@ pub readings_hold : (old : Bool) → ◌≡◌ {A = List (List Bool)}
 unfolding meaning reads_of named word_start text_start is_define directive_of record_of records_of put has shaped define_answer definition_of lowest_bytes evaluate of_expression of_macro of_named name_at idle of_answer evaluation_in of_tokens bars_outside records_in little_endian value_at setting_under_at setting_under reading is_equality read_token read_byte read_from too_deep check_depth class_of span compared macro_name pcd_name digit_of value_in literal is_decimal is_hexadecimal hexadecimal_of number_of string_of string_at spelled is_wide word_of macro_of begins leading lexeme_by lexeme is_primary is_unary level_of run_goal parse clash_or unary_kind binary_kind choice_kind and_digits or_digits apply_unary apply_binary comparison compare_numbers primary_value missing_pcds unary_value both_values binary_value choice_value
 readings_hold old = refl
 
-pub two_elses_refused : (old : Bool) → (run [] 1 start (lines two_elses) (by_itself old) ≡ refused (unplaced DIRECTIVE_STRAY) 4)
-    × (selection two_elses [] 6 (by_itself old) ≡ refused (unplaced DIRECTIVE_STRAY) 4)
+pub two_elses_refused : (old : Bool) → (run [] 1 start (lines two_elses) (by_itself old) ≡ refused (unplaced DirectiveStray) 4)
+    × (selection two_elses [] 6 (by_itself old) ≡ refused (unplaced DirectiveStray) 4)
 unfolding selection run step plan settled onto ends_line lines named word_start text_start is_define directive_of records_of evaluate of_macro of_named name_at idle records_in ordered_names ordered plain_records well_formed little_endian value_at setting_under_at setting_under class_of span compared macro_name pcd_name
 two_elses_refused old = (refl, refl)

@@ -1,8 +1,10 @@
 -- Small texts whose conditions antt computes from the definitions, over a table of no settings and over one of a single setting.
-use Rattle.std.specs.Prelude.{ℕ, ◌≡◌, refl, Bool, true, List, [], ◌∷◌, ◌++◌, map, replicate}
+use Rattle.std.specs.Prelude.{ℕ, ◌≡◌, refl, Bool, true, List, [], ◌∷◌, ◌++◌, map, replicate, Ok, Err, Result}
 use Prim.Native.String.{String}
 use Rattle.units.specs.Dialects.{by_itself, NEW, OLD}
-use Rattle.units.specs.Refusals.{NO_DERIVATION, CONDITION_VALUE, TEXT_MALFORMED, fault_at, unplaced}
+use Rattle.units.specs.Refusals.{fault_at, unplaced}
+use Rattle.units.specs.declared.Fault.{Fault}
+use Rattle.units.specs.declared.Reason.TheVariants.{ConditionValue, NoDerivation, TextMalformed}
 use Rattle.text.specs.Bytes.{bytes, class_of}
 use Rattle.text.specs.Runs.{span}
 use Rattle.text.specs.Order.{compared}
@@ -26,34 +28,34 @@ use Rattle.line.specs.declared.Directive.{Directive}
 use Rattle.line.specs.declared.Directive.TheVariants.{If, Ifdef, Ifndef, Elseif, Else, Endif}
 use Rattle.condition.specs.Conditions.{idle, of_answer, of_expression, name_at, of_named, of_macro, evaluate}
 use Rattle.line.specs.declared.Condition.{Condition}
-use Rattle.line.specs.declared.Condition.TheVariants.{Holds, Fails, Refused}
+use Rattle.line.specs.declared.Condition.TheVariants.{Holds, Fails}
 
 -- a directive, the text after its word, and its condition
 pub record Example : Type 0 where
   pub directive : Directive
   pub text : String
-  pub condition : Condition
+  pub condition : Result Condition Fault
 
-abbrev reads : Directive → String → Condition → Example
+abbrev reads : Directive → String → Result Condition Fault → Example
 reads d s c = record { directive = d; text = s; condition = c }
 
 -- expressions
 abbrev conditions : List Example
 conditions =
-    reads If " 1" (Holds 0)
-    ∷ reads If " 0" (Fails 0)
-    ∷ reads If " 2" (Refused (unplaced CONDITION_VALUE))
-    ∷ reads If " 'a'" (Refused (unplaced CONDITION_VALUE))
-    ∷ reads If " 1 + 1 == 2" (Holds 2)
-    ∷ reads If " # c" (Refused (fault_at NO_DERIVATION 1))
-    ∷ reads If "" (Refused (unplaced TEXT_MALFORMED))
-    ∷ reads If "(1)" (Refused (unplaced TEXT_MALFORMED))
-    ∷ reads Elseif "\t1" (Holds 0)
-    ∷ reads If " 1 | 0" (Holds 1)
-    ∷ reads If " 2 | 1" (Refused (unplaced CONDITION_VALUE))
-    ∷ reads If " 0 || 0" (Fails 1)
-    ∷ reads Elseif " 1 || 1 / 0" (Holds 1)
-    ∷ reads Elseif " 1 |" (Refused (fault_at NO_DERIVATION 4))
+    reads If " 1" (Ok (Holds 0))
+    ∷ reads If " 0" (Ok (Fails 0))
+    ∷ reads If " 2" (Err (unplaced ConditionValue))
+    ∷ reads If " 'a'" (Err (unplaced ConditionValue))
+    ∷ reads If " 1 + 1 == 2" (Ok (Holds 2))
+    ∷ reads If " # c" (Err (fault_at NoDerivation 1))
+    ∷ reads If "" (Err (unplaced TextMalformed))
+    ∷ reads If "(1)" (Err (unplaced TextMalformed))
+    ∷ reads Elseif "\t1" (Ok (Holds 0))
+    ∷ reads If " 1 | 0" (Ok (Holds 1))
+    ∷ reads If " 2 | 1" (Err (unplaced ConditionValue))
+    ∷ reads If " 0 || 0" (Ok (Fails 1))
+    ∷ reads Elseif " 1 || 1 / 0" (Ok (Holds 1))
+    ∷ reads Elseif " 1 |" (Err (fault_at NoDerivation 4))
     ∷ []
 
 -- in both editions
@@ -64,20 +66,20 @@ conditions_hold old = refl
 -- names that the table does not have, one too long for any table, texts that are no name, and directives that take none
 abbrev texts : List Example
 texts =
-    reads Ifdef " A" (Fails 0)
-    ∷ reads Ifdef " A#c" (Fails 0)
-    ∷ reads Ifdef " X0123456789ABCDEF0123456789ABCDEF0123456789ABCDEF0123456789ABCDEF" (Fails 0)
-    ∷ reads Ifndef " A" (Holds 0)
-    ∷ reads Ifdef " a" (Refused (unplaced TEXT_MALFORMED))
-    ∷ reads Ifdef " A B" (Refused (unplaced TEXT_MALFORMED))
-    ∷ reads Ifdef " A || B" (Refused (unplaced TEXT_MALFORMED))
-    ∷ reads Ifdef " # A" (Refused (unplaced TEXT_MALFORMED))
-    ∷ reads Ifdef "A" (Refused (unplaced TEXT_MALFORMED))
-    ∷ reads Else "" (Holds 0)
-    ∷ reads Else " # c" (Holds 0)
-    ∷ reads Else "#c" (Holds 0)
-    ∷ reads Else "x" (Refused (unplaced TEXT_MALFORMED))
-    ∷ reads Endif " 1" (Refused (unplaced TEXT_MALFORMED))
+    reads Ifdef " A" (Ok (Fails 0))
+    ∷ reads Ifdef " A#c" (Ok (Fails 0))
+    ∷ reads Ifdef " X0123456789ABCDEF0123456789ABCDEF0123456789ABCDEF0123456789ABCDEF" (Ok (Fails 0))
+    ∷ reads Ifndef " A" (Ok (Holds 0))
+    ∷ reads Ifdef " a" (Err (unplaced TextMalformed))
+    ∷ reads Ifdef " A B" (Err (unplaced TextMalformed))
+    ∷ reads Ifdef " A || B" (Err (unplaced TextMalformed))
+    ∷ reads Ifdef " # A" (Err (unplaced TextMalformed))
+    ∷ reads Ifdef "A" (Err (unplaced TextMalformed))
+    ∷ reads Else "" (Ok (Holds 0))
+    ∷ reads Else " # c" (Ok (Holds 0))
+    ∷ reads Else "#c" (Ok (Holds 0))
+    ∷ reads Else "x" (Err (unplaced TextMalformed))
+    ∷ reads Endif " 1" (Err (unplaced TextMalformed))
     ∷ []
 
 -- in both editions
@@ -96,9 +98,9 @@ well_formed_table = refl
 -- whether a name is in the table, whatever its setting
 abbrev names : List Example
 names =
-    reads Ifdef " A" (Holds 0)
-    ∷ reads Ifndef " \tA # c" (Fails 0)
-    ∷ reads Ifdef " AA" (Fails 0)
+    reads Ifdef " A" (Ok (Holds 0))
+    ∷ reads Ifndef " \tA # c" (Ok (Fails 0))
+    ∷ reads Ifdef " AA" (Ok (Fails 0))
     ∷ []
 
 -- in both editions
@@ -109,15 +111,15 @@ names_hold old = refl
 -- `$(NAME)`, and what looks like it (document 02, order 5)
 abbrev uses : List Example
 uses =
-    reads Ifdef " $(A)" (Holds 0)
-    ∷ reads Ifndef " \t$(A) # c" (Fails 0)
-    ∷ reads Ifdef " $(AA)" (Fails 0)
-    ∷ reads Ifdef " $(A" (Refused (unplaced TEXT_MALFORMED))
-    ∷ reads Ifdef " $A" (Refused (unplaced TEXT_MALFORMED))
-    ∷ reads Ifdef " $()" (Refused (unplaced TEXT_MALFORMED))
-    ∷ reads Ifdef " $( A)" (Refused (unplaced TEXT_MALFORMED))
-    ∷ reads Ifdef " $(A) B" (Refused (unplaced TEXT_MALFORMED))
-    ∷ reads Ifdef "$(A)" (Refused (unplaced TEXT_MALFORMED))
+    reads Ifdef " $(A)" (Ok (Holds 0))
+    ∷ reads Ifndef " \t$(A) # c" (Ok (Fails 0))
+    ∷ reads Ifdef " $(AA)" (Ok (Fails 0))
+    ∷ reads Ifdef " $(A" (Err (unplaced TextMalformed))
+    ∷ reads Ifdef " $A" (Err (unplaced TextMalformed))
+    ∷ reads Ifdef " $()" (Err (unplaced TextMalformed))
+    ∷ reads Ifdef " $( A)" (Err (unplaced TextMalformed))
+    ∷ reads Ifdef " $(A) B" (Err (unplaced TextMalformed))
+    ∷ reads Ifdef "$(A)" (Err (unplaced TextMalformed))
     ∷ []
 
 -- in the old edition; in the new one all of them are malformed
@@ -125,6 +127,6 @@ uses_hold : map (λ x. evaluate table x.directive (bytes x.text) OLD) uses ≡ m
 unfolding evaluate of_macro of_named name_at idle span compared macro_name records_in little_endian value_at setting_under_at setting_under
 uses_hold = refl
 
-uses_refused : map (λ x. evaluate table x.directive (bytes x.text) NEW) uses ≡ map (λ x. Refused (unplaced TEXT_MALFORMED)) uses
+uses_refused : map (λ x. evaluate table x.directive (bytes x.text) NEW) uses ≡ map (λ x. Err (unplaced TextMalformed)) uses
 unfolding evaluate of_macro of_named name_at idle span compared macro_name records_in little_endian value_at setting_under_at setting_under
 uses_refused = refl

@@ -2,7 +2,8 @@
 use Rattle.std.specs.Prelude.{ℕ, zero, suc, ◌≡◌, refl, Bool, List, [], ◌∷◌, map, replicate}
 use Prim.Native.String.{String}
 use Rattle.units.specs.Dialects.{by_itself}
-use Rattle.units.specs.Refusals.{TOKEN_BAD, NO_DERIVATION, BAR_OUTSIDE, TEXT_MALFORMED, DEFINED_MANY, DEFINED_LONG, fault_at, unplaced}
+use Rattle.units.specs.Refusals.{fault_at, unplaced}
+use Rattle.units.specs.declared.Reason.TheVariants.{BarOutside, DefinedLong, DefinedMany, NoDerivation, TextMalformed, TokenBad}
 use Rattle.text.specs.Bytes.{byte, bytes, class_of}
 use Rattle.text.specs.Runs.{span}
 use Rattle.text.specs.Order.{compared}
@@ -56,18 +57,18 @@ examples =
     -- other first words
     ∷ selects "DEFINED A\nDEFINE_A = 1\n-DEFINE\n" (accepted (1 ∷ 1 ∷ 1 ∷ []) 0)
     -- 22
-    ∷ selects "X\nDEFINE\n" (refused (unplaced TEXT_MALFORMED) 2)
-    ∷ selects "DEFINE=1\n" (refused (unplaced TEXT_MALFORMED) 1)
-    ∷ selects "DEFINE A 1\n" (refused (unplaced TEXT_MALFORMED) 1)
-    ∷ selects "DEFINE $(A) = 1\n" (refused (unplaced TEXT_MALFORMED) 1)
+    ∷ selects "X\nDEFINE\n" (refused (unplaced TextMalformed) 2)
+    ∷ selects "DEFINE=1\n" (refused (unplaced TextMalformed) 1)
+    ∷ selects "DEFINE A 1\n" (refused (unplaced TextMalformed) 1)
+    ∷ selects "DEFINE $(A) = 1\n" (refused (unplaced TextMalformed) 1)
     -- the refusals of the expression, with their places in the line; bars need parentheses
-    ∷ selects "DEFINE A = 1 | 0\n" (refused (fault_at BAR_OUTSIDE 13) 1)
+    ∷ selects "DEFINE A = 1 | 0\n" (refused (fault_at BarOutside 13) 1)
     ∷ selects "DEFINE A = (1 | 0)\n" (accepted (6 ∷ []) 1)
-    ∷ selects "DEFINE A == 1\n" (refused (fault_at TOKEN_BAD 10) 1)
-    ∷ selects "DEFINE A =\n" (refused (fault_at NO_DERIVATION 10) 1)
+    ∷ selects "DEFINE A == 1\n" (refused (fault_at TokenBad 10) 1)
+    ∷ selects "DEFINE A =\n" (refused (fault_at NoDerivation 10) 1)
     -- strings of 56 bytes and of 57
     ∷ selects "DEFINE A = '01234567012345670123456701234567012345670123456701234567'\n" (accepted (6 ∷ []) 0)
-    ∷ selects "DEFINE A = '012345670123456701234567012345670123456701234567012345678'\n" (refused (unplaced DEFINED_LONG) 1)
+    ∷ selects "DEFINE A = '012345670123456701234567012345670123456701234567012345678'\n" (refused (unplaced DefinedLong) 1)
     ∷ []
 
 -- in both editions, here and below
@@ -88,9 +89,9 @@ pub sixty_five_names : (old : Bool) → ◌≡◌ {A = List Definition}
     ∷ definition_of (settings_of 64) [] (bytes "DEFINE B = '012345670123456701234567012345670123456701234567012345678'") (by_itself old)
     ∷ [])
     (sets (of_number (bytes "AAA") 1) 0
-    ∷ fails (unplaced DEFINED_MANY)
+    ∷ fails (unplaced DefinedMany)
     ∷ sets (of_number (bytes "B") 1) 0
-    ∷ fails (unplaced DEFINED_LONG)
+    ∷ fails (unplaced DefinedLong)
     ∷ [])
 unfolding record_of records_of put has shaped define_answer definition_of lowest_bytes evaluation_in of_tokens bars_outside records_in little_endian value_at setting_under_at setting_under reading is_equality read_token read_byte read_from too_deep check_depth class_of span compared macro_name pcd_name digit_of value_in literal is_decimal is_hexadecimal hexadecimal_of number_of string_of string_at spelled is_wide word_of macro_of begins leading lexeme_by lexeme is_primary is_unary level_of run_goal parse clash_or unary_kind binary_kind choice_kind and_digits or_digits apply_unary apply_binary comparison compare_numbers primary_value missing_pcds unary_value both_values binary_value choice_value
 sixty_five_names old = refl

@@ -1,7 +1,7 @@
 -- The meaning of blocks over a table (document 01, "Lines and directives"): a mark for each line and the number of operators that were
 -- applied, or the first fault, with its place in its line (document 02, order 3). The recursion goes over blocks. It carries whether the
 -- branch around them is taken, and hands on the settings that kept DEFINE lines made (document 02, order 6).
-use Rattle.std.specs.Prelude.{ℕ, ◌+◌, ◌≤◌, Bool, true, false, not, ◌&&◌, List, [], ◌∷◌, ◌++◌, length}
+use Rattle.std.specs.Prelude.{ℕ, ◌+◌, ◌≤◌, Bool, true, false, not, ◌&&◌, List, [], ◌∷◌, ◌++◌, length, Ok, Err, Result as Answered}
 use Rattle.units.specs.declared.Dialect.{Dialect}
 use Rattle.units.specs.declared.Fault.{Fault}
 use Rattle.text.specs.Bytes.{pick}
@@ -10,7 +10,7 @@ use Rattle.line.specs.Directives.{is_define, directive_of}
 use Rattle.line.specs.declared.Directive.TheVariants.{Elseif, Else, Endif}
 use Rattle.condition.specs.Conditions.{condition_of}
 use Rattle.line.specs.declared.Condition.{Condition}
-use Rattle.line.specs.declared.Condition.TheVariants.{Holds, Fails, Refused}
+use Rattle.line.specs.declared.Condition.TheVariants.{Holds, Fails}
 use Rattle.define.specs.Define.{Definition, sets, fails, definition_of}
 use Rattle.select.specs.Select.{Result, accepted, refused}
 use Rattle.blocks.specs.Blocks.{Blocks, empty, line, group, Branches, endif, elseif, else}
@@ -48,24 +48,24 @@ plain t own around l δ = pick (is_define l && around) (defining own (definition
 
 -- A branch: its line, its body, and the branches after it. The condition counts only if the line is read. The arguments of `body` are
 -- whether this branch is taken, and the settings; those of `others` are whether a branch of the group was taken so far, and the settings.
-abbrev pub branch : (read : Bool) → Condition → (earlier : Bool) → (own : List Own) → (body others : Bool → List Own → Meaning) → Meaning
+abbrev pub branch : (read : Bool) → Answered Condition Fault → (earlier : Bool) → (own : List Own) → (body others : Bool → List Own → Meaning) → Meaning
 branch false c earlier own body others = single 2 0 own then body false then others earlier
-branch true (Holds n) earlier own body others = single 4 n own then body true then others true
-branch true (Fails n) earlier own body others = single 3 n own then body false then others earlier
-branch true (Refused x) earlier own body others = fault x 0
+branch true (Ok (Holds n)) earlier own body others = single 4 n own then body true then others true
+branch true (Ok (Fails n)) earlier own body others = single 3 n own then body false then others earlier
+branch true (Err x) earlier own body others = fault x 0
 
 -- a read `!else` takes its branch exactly if no earlier one was taken, unless its text is malformed
-abbrev pub otherwise : (earlier : Bool) → Condition → Condition
-otherwise earlier (Holds n) = pick earlier (Fails n) (Holds n)
-otherwise earlier (Fails n) = pick earlier (Fails n) (Holds n)
-otherwise earlier (Refused x) = Refused x
+abbrev pub otherwise : (earlier : Bool) → Answered Condition Fault → Answered Condition Fault
+otherwise earlier (Ok (Holds n)) = Ok (pick earlier (Fails n) (Holds n))
+otherwise earlier (Ok (Fails n)) = Ok (pick earlier (Fails n) (Holds n))
+otherwise earlier (Err x) = Err x
 
 -- an `!endif`
-abbrev pub closing : (read : Bool) → Condition → (own : List Own) → Meaning
+abbrev pub closing : (read : Bool) → Answered Condition Fault → (own : List Own) → Meaning
 closing false c own = single 2 0 own
-closing true (Holds n) own = single 5 n own
-closing true (Fails n) own = single 5 n own
-closing true (Refused x) own = fault x 0
+closing true (Ok (Holds n)) own = single 5 n own
+closing true (Ok (Fails n)) own = single 5 n own
+closing true (Err x) own = fault x 0
 
 -- The reading rule: `!if`, `!ifdef`, `!ifndef`, `!else` and `!endif` are read if the branch around their group is taken; `!elseif` is read
 -- if also no earlier branch of its group was taken. The blocks of a whole file have no branch around them, which counts as taken, and no

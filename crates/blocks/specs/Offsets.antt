@@ -28,6 +28,6 @@ pub record PlacedIn (t : List ℕ) (s : State) (l : List ℕ) (x : Fault) (δ : 
   pub expression : Expression s l δ text start dialect
   pub refusal : Refusal
   pub answered : evaluation_in (over text (scope s.own t)) dialect ≡ refused refusal
-  pub number : refusal.number ≡ x.number
+  pub number : refusal.reason ≡ x.reason
   pub place : x.at.0 ≡ start + refusal.offset.0
   pub within : x.at.0 ≤ length l

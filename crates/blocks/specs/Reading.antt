@@ -1,21 +1,22 @@
 -- Which directives are read, line by line, by blocks (document 01, "Lines and directives": a directive is read if its outcome depends on
 -- it). `marks_show_reading` of the page of theorems is that the marks of a selection show exactly these lines.
-use Rattle.std.specs.Prelude.{ℕ, Bool, true, false, not, ◌&&◌, ◌||◌, List, [], ◌∷◌, ◌++◌}
+use Rattle.std.specs.Prelude.{ℕ, Bool, true, false, not, ◌&&◌, ◌||◌, List, [], ◌∷◌, ◌++◌, Ok, Err, Result}
 use Rattle.units.specs.declared.Dialect.{Dialect}
+use Rattle.units.specs.declared.Fault.{Fault}
 use Rattle.own.specs.Own.{Own, scope}
 use Rattle.line.specs.Directives.{is_define, directive_of}
 use Rattle.line.specs.declared.Directive.TheVariants.{Elseif}
 use Rattle.condition.specs.Conditions.{condition_of}
 use Rattle.line.specs.declared.Condition.{Condition}
-use Rattle.line.specs.declared.Condition.TheVariants.{Holds, Fails, Refused}
+use Rattle.line.specs.declared.Condition.TheVariants.{Holds, Fails}
 use Rattle.blocks.specs.Blocks.{Blocks, empty, line, group, Branches, endif, elseif, else}
 use Rattle.blocks.specs.Meaning.{Meaning, means, fault, plain, meaning, branches}
 
 -- whether a condition holds, so that its branch is taken
-abbrev pub holds : Condition → Bool
-holds (Holds n) = true
-holds (Fails n) = false
-holds (Refused x) = false
+abbrev pub holds : Result Condition Fault → Bool
+holds (Ok (Holds n)) = true
+holds (Ok (Fails n)) = false
+holds (Err x) = false
 
 -- the settings after lines with this meaning; no selection goes on after a fault, so any would do there
 abbrev pub settings : Meaning → List Own

@@ -4,6 +4,7 @@ use Rattle.std.specs.Prelude.{ℕ, ◌+◌, ◌≤◌, ◌<◌, ◌≡◌, true,
 use Rattle.units.specs.declared.Dialect.{Dialect}
 use Rattle.units.specs.declared.Fault.{Fault}
 use Rattle.units.specs.Refusals.{unplaced}
+use Rattle.units.specs.declared.Reason.TheVariants.{DirectiveStray, LineLong, NestingDeep, WordUnknown}
 use Rattle.own.specs.Own.{Own}
 use Rattle.line.specs.Directives.{directive_of}
 use Rattle.line.specs.declared.Directive.TheVariants.{Unknown}
@@ -26,15 +27,15 @@ pub record Passable (t : List ℕ) (ls : List (List ℕ)) (δ : Dialect) : Type 
 -- the reason why line l is refused after the lines ls, for each number that a line can be refused with, and its place in the line
 pub data Refuses (t : List ℕ) (ls : List (List ℕ)) (l : List ℕ) (δ : Dialect) : Fault → Type 0 where
   -- 17: it is over 1,024 bytes
-  long : 1024 < length l → Refuses t ls l δ (unplaced 17)
+  long : 1024 < length l → Refuses t ls l δ (unplaced LineLong)
   -- 18: its word is unknown
-  unknown : length l ≤ 1024 → directive_of l ≡ Unknown → Refuses t ls l δ (unplaced 18)
+  unknown : length l ≤ 1024 → directive_of l ≡ Unknown → Refuses t ls l δ (unplaced WordUnknown)
   -- 19: the lines with it begin no blocks
-  stray : length l ≤ 1024 → (directive_of l ≡ Unknown → ⊥) → (Begins (ls ++ (l ∷ [])) → ⊥) → Refuses t ls l δ (unplaced 19)
+  stray : length l ≤ 1024 → (directive_of l ≡ Unknown → ⊥) → (Begins (ls ++ (l ∷ [])) → ⊥) → Refuses t ls l δ (unplaced DirectiveStray)
   -- 20: it opens a group, and all blocks that the lines with it begin are more than 16 deep
   deep : length l ≤ 1024 → opens (directive_of l) ≡ true
       → ((more : List (List ℕ)) (bs : Blocks) → Derives (ls ++ (l ∷ more)) bs → 16 < depth bs)
-      → Refuses t ls l δ (unplaced 20)
+      → Refuses t ls l δ (unplaced NestingDeep)
   -- any other number: the lines with it begin blocks within the limits, and the meaning of these is this fault at this line
   faulty : {x : Fault} (more : List (List ℕ)) (bs : Blocks) → Derives (ls ++ (l ∷ more)) bs → depth bs ≤ 16 → WithinLimit (ls ++ (l ∷ more))
       → meaning t [] true bs δ ≡ fault x (length ls)

@@ -3,7 +3,8 @@
 use Rattle.std.specs.Prelude.{ℕ, ◌≡◌, refl, Bool, List, [], ◌∷◌, ◌++◌, replicate}
 use Prim.Native.String.{String}
 use Rattle.units.specs.Dialects.{by_itself}
-use Rattle.units.specs.Refusals.{DIVISOR_ZERO, fault_at}
+use Rattle.units.specs.Refusals.{fault_at}
+use Rattle.units.specs.declared.Reason.TheVariants.{DivisorZero}
 use Rattle.text.specs.Bytes.{bytes, class_of}
 use Rattle.text.specs.Runs.{span}
 use Rattle.text.specs.Order.{compared}
@@ -56,7 +57,7 @@ results old =
 
 -- in both editions
 pub results_hold : (old : Bool) → results old ≡ accepted (4 ∷ 1 ∷ 2 ∷ 0 ∷ 3 ∷ 0 ∷ 5 ∷ 1 ∷ []) 1
-    ∷ refused (fault_at DIVISOR_ZERO 10) 3
+    ∷ refused (fault_at DivisorZero 10) 3
     ∷ accepted (3 ∷ 0 ∷ 5 ∷ []) 3
     ∷ accepted (4 ∷ 1 ∷ 5 ∷ []) 2
     ∷ []

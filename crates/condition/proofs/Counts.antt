@@ -6,8 +6,10 @@ use mathlib.Core.Bool.{Bool, true, false, not}
 use mathlib.Core.List.{List}
 use lib.Dec.{eqb}
 use lib.ListN.{drop}
+use Rattle.std.specs.Prelude.{Result}
 use Rattle.units.specs.Dialects.{in_directives}
 use Rattle.units.specs.declared.Dialect.{Dialect}
+use Rattle.units.specs.declared.Fault.{Fault}
 use Rattle.text.specs.Bytes.{pick}
 use Rattle.text.specs.Runs.{span}
 use Rattle.text.specs.declared.runs.Set.TheVariants.{Blanks}
@@ -19,11 +21,11 @@ use Rattle.evaluation.specs.Evaluation.{Evaluation, value, refused, evaluation_i
 use Rattle.evaluation.proofs.FromTree.{counted}
 use Rattle.line.specs.declared.Directive.{Directive}
 use Rattle.line.specs.declared.Directive.TheVariants.{Plain, If, Ifdef, Ifndef, Elseif, Else, Endif, Unknown}
+use Rattle.line.specs.declared.Condition.{Condition}
 use Rattle.condition.specs.Conditions.{count_of, spaced, idle, of_answer, of_expression, name_at, tested, alone, present, of_named, of_macro, evaluate}
 use Rattle.condition.specs.declared.macros.Named.{Named}
-use Rattle.line.specs.declared.Condition.{Condition}
 
-abbrev Small : Condition → Type 0
+abbrev Small : Result Condition Fault → Type 0
 Small c = count_of c < 200
 
 -- an answer whose count is small

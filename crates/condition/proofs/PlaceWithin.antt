@@ -6,6 +6,7 @@ use mathlib.Core.Bool.{Bool, true, false, not}
 use mathlib.Core.List.{List}
 use lib.Dec.{eqb}
 use lib.ListN.{length, drop}
+use Rattle.std.specs.Prelude.{Result, Ok, Err}
 use Rattle.units.specs.Dialects.{in_directives}
 use Rattle.units.specs.declared.Dialect.{Dialect}
 use Rattle.units.specs.declared.Fault.{Fault}
@@ -21,13 +22,13 @@ use Rattle.evaluation.proofs.OffsetWithin.{offset_within}
 use Rattle.line.specs.declared.Directive.{Directive}
 use Rattle.line.specs.declared.Directive.TheVariants.{Plain, If, Ifdef, Ifndef, Elseif, Else, Endif, Unknown}
 use Rattle.line.specs.declared.Condition.{Condition}
-use Rattle.line.specs.declared.Condition.TheVariants.{Holds, Fails, Refused}
+use Rattle.line.specs.declared.Condition.TheVariants.{Holds, Fails}
 use Rattle.condition.specs.Conditions.{count_of, offset_of, spaced, idle, of_answer, of_expression, name_at, tested, alone, present, of_named, of_macro}
 use Rattle.condition.specs.Conditions.{evaluate, in_line}
 use Rattle.condition.specs.declared.macros.Named.{Named}
 
 -- the place is at most this far
-abbrev Within : ℕ → Condition → Type 0
+abbrev Within : ℕ → Result Condition Fault → Type 0
 Within k c = offset_of c ≤ k
 
 of_answer_lem : (k : ℕ) (x : Evaluation) → ((r : Refusal) → x ≡ refused r → r.offset.0 ≤ k) → Within k (of_answer x)
@@ -73,11 +74,11 @@ within_text t Endif s δ = nothing_within (length s) t s δ
 within_text t Plain s δ = omega arith
 within_text t Unknown s δ = omega arith
 
-pub place_within : (t : List ℕ) (d : Directive) (s : List ℕ) (δ : Dialect) (f : Fault) → evaluate t d s δ ≡ Refused f → f.at.0 ≤ length s
+pub place_within : (t : List ℕ) (d : Directive) (s : List ℕ) (δ : Dialect) (f : Fault) → evaluate t d s δ ≡ Err f → f.at.0 ≤ length s
 place_within t d s δ f e = rw e at (within_text t d s δ)
 
 -- a condition in its line applied as many operators
-pub same_count : (p : ℕ) (c : Condition) → count_of (in_line p c) ≡ count_of c
-same_count p (Holds n) = refl
-same_count p (Fails n) = refl
-same_count p (Refused f) = refl
+pub same_count : (p : ℕ) (c : Result Condition Fault) → count_of (in_line p c) ≡ count_of c
+same_count p (Ok (Holds n)) = refl
+same_count p (Ok (Fails n)) = refl
+same_count p (Err f) = refl

@@ -5,7 +5,7 @@ ghost use Rattle.condition.specs.Conditions.{spaced, idle, of_nothing};
 use line::Condition;
 use text::runs::Set;
 use text::{bytes, runs};
-use units::Offset;
+use units::{Fault, Offset, Reason};
 
 // Whether a blank follows the word directly.
 pub fn is_spaced(text: &[u8]) -> bool
@@ -15,23 +15,21 @@ pub fn is_spaced(text: &[u8]) -> bool
 }
 
 // Whether only blanks and an optional comment follow.
+#[tactic(auto, using(crate::proofs::Texts::idle_past, crate::proofs::Texts::idle_by_byte))]
 pub fn is_idle(text: &[u8], from: Offset) -> bool
     ensures { result ≡ idle (drop from.0 text.now) }
 {
     let end = runs::run_end(text, from, Set::Blanks);
-    if text.len() <= end.0 {
-        return true;
-    }
-    bytes::byte_at(text, end) == b'#'
+    matches!(&text.get(end.0), None | Some(b'#'))
 }
 
 // `!else` and `!endif`.
-pub fn of_nothing(text: &[u8]) -> Condition
+pub fn of_nothing(text: &[u8]) -> Result<Condition, Fault>
     ensures { result ≡ of_nothing text.now }
 {
     if is_idle(text, Offset(0)) {
-        Condition::Holds(0)
+        Ok(Condition::Holds(0))
     } else {
-        Condition::Refused(units::unplaced(units::TEXT_MALFORMED))
+        Err(Reason::TextMalformed.into())
     }
 }

@@ -1,62 +1,57 @@
 // `!if` and `!elseif`: the answer to an expression as a condition.
 ghost use Rattle.std.specs.Prelude.{◌≡◌, ◌++◌};
-ghost use Rattle.lookup.specs.Setting.{Looked};
-ghost use Rattle.value.specs.Places.{Memory};
+ghost use Rattle.value.specs.Places.{Memory as Meant};
 ghost use Rattle.evaluation.specs.Evaluation.{denote_answer};
 ghost use Rattle.condition.specs.Conditions.{of_number, of_answer, of_expression};
 
 use crate::blanks;
-use evaluation::{Answer, AnswerValue, outcome};
+use evaluation::{Evaluated, outcome};
 use line::Condition;
-use units::{Dialect, Fault};
+use lookup::{Settings, Value};
+use units::{Dialect, Fault, Reason, Refusal};
+use value::Memory;
 
-fn of_number(x: u64, count: usize) -> Condition
+fn of_number(x: u64, count: usize) -> Result<Condition, Fault>
     ensures { result ≡ of_number x count }
 {
-    if x == 1 {
-        return Condition::Holds(count);
+    match x {
+        1 => Ok(Condition::Holds(count)),
+        0 => Ok(Condition::Fails(count)),
+        _ => Err(Reason::ConditionValue.into()),
     }
-    if x == 0 {
-        return Condition::Fails(count);
-    }
-    Condition::Refused(units::unplaced(units::CONDITION_VALUE))
 }
 
-fn of_answer(a: Answer) -> Condition
-    ensures { (m : Memory) → result ≡ of_answer (denote_answer m a) }
+#[tactic(auto, unfolding(crate::specs::Conditions::of_answer))]
+fn of_answer(answer: Result<Evaluated, Refusal>) -> Result<Condition, Fault>
+    ensures { (m : Meant) → result ≡ of_answer (denote_answer m answer) }
 {
-    match a {
-        Answer::Refused(r) => {
-            let at = r.offset;
-            Condition::Refused(Fault {
-                number: r.number,
-                at,
-            })
-        }
-        Answer::Value(v, count) => match v {
-            AnswerValue::Number(x) => of_number(x, count),
-            AnswerValue::String(_) => Condition::Refused(units::unplaced(units::CONDITION_VALUE)),
-            AnswerValue::Wide(_) => Condition::Refused(units::unplaced(units::CONDITION_VALUE)),
+    match answer {
+        Ok(Evaluated { value, count }) => match value {
+            Value::Number(x) => of_number(x, count),
+            Value::Text(_, _) => Err(Reason::ConditionValue.into()),
         },
+        Err(refusal) => Err(Fault {
+            reason: refusal.reason,
+            at: refusal.offset,
+        }),
     }
 }
 
 // The argument is all of the text. Bars need no parentheses in it.
-pub fn of_expression<'a>(
-    own: &'a [u8],
-    table: &'a [u8],
-    text: &'a [u8],
-    dialect: Dialect,
-) -> Condition
-    requires { Looked own.now table.now }
-    ensures { result ≡ of_expression (own.now ++ table.now) text.now dialect }
+#[tactic(auto, unfolding(crate::specs::Conditions::of_expression))]
+pub fn of_expression(settings: Settings, text: &[u8], dialect: Dialect) -> Result<Condition, Fault>
+    ensures { result ≡ of_expression (settings.entry.own.now ++ settings.entry.table.now) text.now dialect }
 {
     if !blanks::is_spaced(text) {
-        return Condition::Refused(units::unplaced(units::TEXT_MALFORMED));
+        return Err(Reason::TextMalformed.into());
     }
     let rules = Dialect {
         bars: true,
         old: dialect.old,
     };
-    of_answer(outcome::evaluate_in(text, own, table, rules))
+    let memory = Memory {
+        expr: text,
+        settings,
+    };
+    of_answer(outcome::evaluate_in(memory, rules))
 }

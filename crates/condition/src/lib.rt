@@ -7,31 +7,27 @@ mod macros;
 pub mod places;
 
 ghost use Rattle.std.specs.Prelude.{◌≡◌, ◌++◌};
-ghost use Rattle.lookup.specs.Setting.{Looked};
 ghost use Rattle.condition.specs.Conditions.{evaluate as evaluate_of};
 
 use line::{Condition, Directive};
-use units::Dialect;
+use lookup::Settings;
+use units::{Dialect, Fault};
 
 // The condition in the text after the word of a directive. A plain line and an unknown word get a fixed condition.
-pub fn evaluate<'a>(
-    own: &'a [u8],
-    table: &'a [u8],
+#[tactic(auto, unfolding(crate::specs::Conditions::evaluate))]
+pub fn evaluate(
+    settings: Settings,
     d: Directive,
-    text: &'a [u8],
+    text: &[u8],
     dialect: Dialect,
-) -> Condition
-    requires { Looked own.now table.now }
-    ensures { result ≡ evaluate_of (own.now ++ table.now) d text.now dialect }
+) -> Result<Condition, Fault>
+    ensures { result ≡ evaluate_of (settings.entry.own.now ++ settings.entry.table.now) d text.now dialect }
 {
     match d {
-        Directive::If => expressions::of_expression(own, table, text, dialect),
-        Directive::Elseif => expressions::of_expression(own, table, text, dialect),
-        Directive::Ifdef => macros::of_macro(own, table, true, text, dialect),
-        Directive::Ifndef => macros::of_macro(own, table, false, text, dialect),
-        Directive::Else => blanks::of_nothing(text),
-        Directive::Endif => blanks::of_nothing(text),
-        Directive::Plain => Condition::Fails(0),
-        Directive::Unknown => Condition::Fails(0),
+        Directive::If | Directive::Elseif => expressions::of_expression(settings, text, dialect),
+        Directive::Ifdef => macros::of_macro(settings, true, text, dialect),
+        Directive::Ifndef => macros::of_macro(settings, false, text, dialect),
+        Directive::Else | Directive::Endif => blanks::of_nothing(text),
+        Directive::Plain | Directive::Unknown => Ok(Condition::Fails(0)),
     }
 }

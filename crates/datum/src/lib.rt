@@ -5,87 +5,60 @@ mod sizes;
 mod store;
 pub mod types;
 
-ghost use Rattle.std.specs.Prelude.{◌≡◌, List, ℕ, eqb};
-ghost use Rattle.units.specs.Refusals.{refusal};
-ghost use Rattle.text.specs.Bytes.{pick};
-ghost use Rattle.datum.specs.Encoding.{bytes, unfit, terminated, widened, number_field, string_field, fitted, Writes};
+ghost use Rattle.std.specs.Prelude.{◌≡◌, ℕ, List, MatchResult};
+ghost use Rattle.datum.specs.Encoding.{bytes, terminated, widened, number_field, string_field, fitted, Writes};
+ghost use Rattle.datum.specs.Datums.{Unfits};
 
-use units::Refusal;
+use sizes::Numbers;
+use types::Datum;
+use units::{Reason, Refusal};
 
-// The length of the field, or a refusal.
-#[derive(Clone, Copy)]
-pub enum Written {
-    Length(usize),
-    Refused(Refusal),
-}
-
-fn refused(number: u8) -> Written
-    ensures { result ≡ Written.Refused (refusal number) }
-{
-    Written::Refused(units::refuse(number))
-}
-
-// Writes a number.
-pub fn number(buffer: &mut [u8], datum: u8, x: u64) -> Written
+// Writes the lowest bytes of a number, the lowest first.
+pub fn number(buffer: &mut [u8], datum: u8, x: u64) -> Result<usize, Refusal>
     ensures { Writes (fitted (number_field datum x) buffer.old) result buffer.new }
 {
-    if types::UINT64 < datum {
-        return refused(units::DATUM_UNKNOWN);
+    let Numbers { width, largest } = Numbers::of(datum)?;
+    if largest < x {
+        return Err(Reason::DatumRange.into());
     }
-    if datum == types::VOID {
-        return refused(units::DATUM_KIND);
-    }
-    if sizes::most_of(datum) < x {
-        return refused(units::DATUM_RANGE);
-    }
-    let width = sizes::width_of(datum);
     if buffer.len() < width {
-        return refused(units::BUFFER_SHORT);
+        return Err(Reason::BufferShort.into());
     }
-    store::put_number(buffer, width, x);
-    Written::Length(width)
+    buffer[..width].copy_from_slice(&x.to_le_bytes()[..width]);
+    Ok(width)
 }
 
-// The number of the refusal if a datum takes no string, 0 if it takes one.
-fn unsuited(datum: u8) -> u8
-    ensures { (s : List ℕ) → string_field datum s ≡ pick (eqb result 0) (bytes s) (unfit result) }
+// Refuses the code of a datum that takes no strings.
+fn check_string(datum: u8) -> Result<(), Refusal>
+    ensures { MatchResult result (λ _. (s : List ℕ) → string_field datum s ≡ bytes s) (Unfits (string_field datum)) }
 {
-    if types::UINT64 < datum {
-        return units::DATUM_UNKNOWN;
+    if Datum::try_from(datum)? != Datum::Void {
+        return Err(Reason::DatumKind.into());
     }
-    if datum == types::VOID {
-        0
-    } else {
-        units::DATUM_KIND
-    }
+    Ok(())
 }
 
 // Writes a string and its zero.
-pub fn string(buffer: &mut [u8], datum: u8, s: &[u8]) -> Written
+pub fn string(buffer: &mut [u8], datum: u8, s: &[u8]) -> Result<usize, Refusal>
     ensures { Writes (fitted (string_field datum (terminated s.now)) buffer.old) result buffer.new }
 {
-    let why = unsuited(datum);
-    if why != 0 {
-        return refused(why);
-    }
+    check_string(datum)?;
     if buffer.len() <= s.len() {
-        return refused(units::BUFFER_SHORT);
+        return Err(Reason::BufferShort.into());
     }
     store::put_string(buffer, s);
-    Written::Length(s.len() + 1)
+    Ok(s.len() + 1)
 }
 
 // Writes a wide string and its two zeros. The test halves the buffer's length, since the doubled length of the string may overflow `usize`.
-pub fn wide(buffer: &mut [u8], datum: u8, s: &[u8]) -> Written
+// Stays: one function for both, by the width of a byte's place, would be no plainer, since a string is copied whole and a wide one spread.
+pub fn wide(buffer: &mut [u8], datum: u8, s: &[u8]) -> Result<usize, Refusal>
     ensures { Writes (fitted (string_field datum (widened s.now)) buffer.old) result buffer.new }
 {
-    let why = unsuited(datum);
-    if why != 0 {
-        return refused(why);
-    }
+    check_string(datum)?;
     if buffer.len() / 2 <= s.len() {
-        return refused(units::BUFFER_SHORT);
+        return Err(Reason::BufferShort.into());
     }
     store::put_wide(buffer, s);
-    Written::Length(2 * (s.len() + 1))
+    Ok(2 * (s.len() + 1))
 }

@@ -1,16 +1,17 @@
 -- The count of operators of a DEFINE line is below 200, the largest number of tokens in an expression. Assumes nothing.
 use Prim.Native.Nat.{ℕ, ◌<◌}
 use native.Mathlib.Omega.{arith}
-use mathlib.Core.Path.{◌≡◌, refl, sym, ◌∙◌}
-use mathlib.Core.Bool.{true, ◌||◌, false≢true}
+use mathlib.Core.Path.{◌≡◌, refl}
+use mathlib.Core.Bool.{◌||◌}
 use mathlib.Core.List.{List}
 use lib.ListN.{length}
 use lib.Dec.{ltb, leb}
+use Rattle.std.specs.Prelude.{Ok}
 use Rattle.units.specs.Dialects.{by_itself}
 use Rattle.units.specs.declared.Dialect.{Dialect}
 use Rattle.text.proofs.Laws.{pick_case}
-use Rattle.token.proofs.Reading.{most_tokens}
 use Rattle.own.specs.Own.{Own, scope, has, MAX_OWN}
+use Rattle.token.proofs.Reading.{most_tokens}
 use Rattle.value.specs.Places.{Memory, over}
 use Rattle.value.specs.Values.{Value, number, text, fault}
 use Rattle.evaluation.specs.Evaluation.{Evaluation, value, refused, evaluation_in}
@@ -46,6 +47,6 @@ definition_small own t l δ =
     (λ _. tt)
 
 -- what the code does with a line applies few operators
-pub does_few : (d : Definition) (o : List Own) (b : List ℕ) (z : Defined) → Small d → Does d o b z → z.ok ≡ true → z.count < 200
-does_few (sets y j) o b z i k h = omega (arith, i, k.1)
-does_few (fails e) o b z i k h = absurd (false≢true (sym k.0 ∙ h))
+pub does_few : (d : Definition) (o : List Own) (b : List ℕ) (z : Defined) → Small d → Does d o b (Ok z) → z.count < 200
+does_few (sets y j) o b z i k = omega (arith, i, k.0)
+does_few (fails e) o b z i k = absurd k

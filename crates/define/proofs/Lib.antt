@@ -1,6 +1,6 @@
 pub mod Counts
 pub mod Shapes
-pub mod Limits
+pub mod Settings
 pub mod Answers
 pub mod MacroNames
 pub mod Sets

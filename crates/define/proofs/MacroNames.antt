@@ -8,10 +8,11 @@ use mathlib.Core.List.{List}
 use lib.ListN.{length, get_or, drop}
 use lib.Dec.{eqb, ltb, leb}
 use borrow.Author.Tests.{ltb-true, leb-true}
-use Rattle.units.specs.Refusals.{DEFINED_MANY, DEFINED_LONG, TEXT_MALFORMED, unplaced}
+use Rattle.units.specs.Refusals.{unplaced}
 use Rattle.units.specs.Dialects.{by_itself}
 use Rattle.units.specs.declared.Dialect.{Dialect}
 use Rattle.units.specs.declared.Fault.{Fault}
+use Rattle.units.specs.declared.Reason.TheVariants.{DefinedLong, DefinedMany, TextMalformed}
 use Rattle.text.specs.Bytes.{byte, pick, blank}
 use Rattle.text.proofs.Laws.{and_left, and_right}
 use Rattle.text.proofs.NameRuns.{name_length_lem, name_whole}
@@ -63,18 +64,18 @@ module _ (o : List Own) (x : Own) (k : ℕ) where
   pub limited_sets : (y : Own) (c : ℕ) → limited o y c ≡ sets x k → Limited y c
   limited_sets y c e = by (has y.name o || ltb (length o) MAX_OWN) refl e
     where
-      by : (b : Bool) → (has y.name o || ltb (length o) MAX_OWN) ≡ b → pick b (sets y c) (fails (unplaced DEFINED_MANY)) ≡ sets x k → Limited y c
+      by : (b : Bool) → (has y.name o || ltb (length o) MAX_OWN) ≡ b → pick b (sets y c) (fails (unplaced DefinedMany)) ≡ sets x k → Limited y c
       by true q h = record { same = cc; count = cc; room = q }
-      by false q h = refuses (unplaced DEFINED_MANY) x k h
+      by false q h = refuses (unplaced DefinedMany) x k h
 
   -- the same for a string, which has at most 56 bytes
   pub text_sets : (y : Own) (c : ℕ) → limited_text o y c ≡ sets x k → (length y.content ≤ MAX_CONTENT) × Limited y c
   text_sets y c e = by (leb (length y.content) MAX_CONTENT) refl e
     where
-      by : (b : Bool) → leb (length y.content) MAX_CONTENT ≡ b → pick b (limited o y c) (fails (unplaced DEFINED_LONG)) ≡ sets x k
+      by : (b : Bool) → leb (length y.content) MAX_CONTENT ≡ b → pick b (limited o y c) (fails (unplaced DefinedLong)) ≡ sets x k
           → (length y.content ≤ MAX_CONTENT) × Limited y c
       by true q h = (leb-true (length y.content) MAX_CONTENT q, limited_sets y c h)
-      by false q h = refuses (unplaced DEFINED_LONG) x k h
+      by false q h = refuses (unplaced DefinedLong) x k h
 
   -- the name of a setting that an answer makes, and its room
   pub record Sets (n : List ℕ) : Type 0 where
@@ -87,7 +88,7 @@ module _ (o : List Own) (x : Own) (k : ℕ) where
   answer_sets : (n : List ℕ) (p : ℕ) (a : Evaluation) → of_answer o n p a ≡ sets x k → Sets n
   unfolding of_answer
   answer_sets n p (value (number v) c) e = limited_so n (of_number n v) c refl (limited_sets (of_number n v) c e)
-  answer_sets n p (value (fault f) c) e = refuses (unplaced DEFINED_LONG) x k e
+  answer_sets n p (value (fault f) c) e = refuses (unplaced DefinedLong) x k e
   answer_sets n p (refused r) e = refuses _ x k e
   answer_sets n p (value (text j q s) c) e = limited_so n (of_text n j s) c refl (text_sets (of_text n j s) c e).1
 
@@ -99,9 +100,9 @@ module _ (o : List Own) (x : Own) (k : ℕ) where
       where
         by : (b : Bool) → shaped l ≡ b
             → pick b (of_answer o (macro_of l) (expression_start l) (evaluation_in (over (expression_of l) (scope o t)) (by_itself δ.old)))
-            (fails (unplaced TEXT_MALFORMED)) ≡ sets x k → (shaped l ≡ true) × Sets (macro_of l)
+            (fails (unplaced TextMalformed)) ≡ sets x k → (shaped l ≡ true) × Sets (macro_of l)
         by true q h = (q, answer_sets (macro_of l) (expression_start l) _ h)
-        by false q h = refuses (unplaced TEXT_MALFORMED) x k h
+        by false q h = refuses (unplaced TextMalformed) x k h
 
     pub line_shaped : shaped l ≡ true
     line_shaped = line_sets.0

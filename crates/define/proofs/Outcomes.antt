@@ -9,11 +9,12 @@ use mathlib.Core.List.{List}
 use lib.ListN.{length}
 use lib.Dec.{ltb, leb}
 use borrow.Author.Tests.{lt-ltb, le-ltb, ltb-true, ltb-false, le-leb, lt-leb, leb-true, leb-false}
-use Rattle.units.specs.Refusals.{TEXT_MALFORMED, fault_at, unplaced, placed}
+use Rattle.units.specs.Refusals.{fault_at, unplaced, placed}
 use Rattle.units.specs.Dialects.{by_itself}
 use Rattle.units.specs.declared.Dialect.{Dialect}
 use Rattle.units.specs.declared.Fault.{Fault}
 use Rattle.units.specs.declared.Refusal.{Refusal}
+use Rattle.units.specs.declared.Reason.TheVariants.{TextMalformed}
 use Rattle.text.specs.Bytes.{pick}
 use Rattle.text.proofs.Laws.{pick_case}
 use Rattle.own.specs.Own.{Own, scope, has, MAX_OWN}
@@ -66,9 +67,9 @@ module _ (own : List Own) (name : List ℕ) where
 
   module _ (p : ℕ) where
     refused_says : (r : Refusal) → Says own name p (refused r) (fails (in_line p r))
-    refused_says r = by (placed r.number) refl
+    refused_says r = by (placed r.reason) refl
       where
-        by : (b : Bool) → placed r.number ≡ b → Says own name p (refused r) (fails (fault_at r.number (pick b (p + r.offset.0) 0)))
+        by : (b : Bool) → placed r.reason ≡ b → Says own name p (refused r) (fails (fault_at r.reason (pick b (p + r.offset.0) 0)))
         by true q = refused_there r q
         by false q = refused_so r q
 
@@ -117,15 +118,15 @@ module _ (own : List Own) (t l : List ℕ) (δ : Dialect) where
       (says own name (length l - length e) (answer e) (no_fault (over e (scope own t)) (by_itself δ.old)))
 
   -- THE THIRD THEOREM
-  pub other_shape : is_define l ≡ true → ((name e : List ℕ) → DefineLine l name e → ⊥) → definition_of own t l δ ≡ fails (unplaced 22)
+  pub other_shape : is_define l ≡ true → ((name e : List ℕ) → DefineLine l name e → ⊥) → definition_of own t l δ ≡ fails (unplaced TextMalformed)
   unfolding definition_of
   other_shape word none = by (shaped l) refl
     where
-      by : (b : Bool) → shaped l ≡ b → definition_of own t l δ ≡ fails (unplaced TEXT_MALFORMED)
+      by : (b : Bool) → shaped l ≡ b → definition_of own t l δ ≡ fails (unplaced TextMalformed)
       by true h = absurd (none (macro_of l) (expression_of l) (parts_line l word h))
       by false h = rw h
 
   -- THE FOURTH THEOREM
-  pub long_name_refused : (name e : List ℕ) → DefineText l name e → 64 < length name → definition_of own t l δ ≡ fails (unplaced 22)
+  pub long_name_refused : (name e : List ℕ) → DefineText l name e → 64 < length name → definition_of own t l δ ≡ fails (unplaced TextMalformed)
   unfolding definition_of
   long_name_refused name e d h = rw (long_name l (rw (name_run l name e d) h))

@@ -6,16 +6,18 @@ use mathlib.Core.Path.{◌≡◌, refl, sym, ap, ◌∙◌}
 use mathlib.Core.Bool.{true}
 use mathlib.Core.List.{List}
 use lib.ListN.{length}
-use Rattle.units.specs.Refusals.{DEFINED_LONG, unplaced}
+use Rattle.std.specs.Prelude.{Some}
+use Rattle.units.specs.Refusals.{unplaced}
 use Rattle.units.specs.Dialects.{by_itself}
 use Rattle.units.specs.declared.Dialect.{Dialect}
+use Rattle.units.specs.declared.Reason.TheVariants.{DefinedLong}
 use Rattle.settings.specs.Table.{plain_record, well_formed}
-use Rattle.lookup.specs.Setting.{set_to, setting_under, record_under}
+use Rattle.own.specs.Own.{Own, record_of, scope, put}
+use Rattle.lookup.specs.Setting.{setting_under, record_under}
 use Rattle.lookup.specs.declared.Place.{Place}
 use Rattle.lookup.specs.declared.TextKind.{TextKind}
 use Rattle.lookup.specs.declared.TextKind.TheVariants.{String, Wide}
 use Rattle.lookup.specs.declared.Value.TheVariants.{Number}
-use Rattle.own.specs.Own.{Own, record_of, scope, put}
 use Rattle.scoped.proofs.Put.{put_same, put_other}
 use Rattle.scoped.proofs.Contents.{text_byte, number_plain, text_plain}
 use Rattle.scoped.proofs.Settled.{IsText, settled_number, settled_text}
@@ -60,7 +62,7 @@ module _ (o : List Own) (x : Own) (k : ℕ) (t l : List ℕ) (δ : Dialect) (e :
 
   -- its value wherever the record under its name is the one that the line sets
   module _ (u : List ℕ) (there : record_under u (macro_of l) ≡ record_of x) where
-    pub number_there : (v c : ℕ) → answer ≡ value (number v) c → v < 2 ^ 64 → setting_under u (macro_of l) ≡ set_to (Number v)
+    pub number_there : (v c : ℕ) → answer ≡ value (number v) c → v < 2 ^ 64 → setting_under u (macro_of l) ≡ Some (Number v)
     number_there v c q h =
         let y : Own = of_number (macro_of l) v in
         settled_number u (macro_of l) y (there ∙ ap record_of (sym (made_number v c q).same)) v refl refl h
@@ -75,7 +77,7 @@ module _ (o : List Own) (x : Own) (k : ℕ) (t l : List ℕ) (δ : Dialect) (e :
   after = scope (put x o) t
 
   -- THE FIRST THEOREM
-  pub line_number : (v c : ℕ) → answer ≡ value (number v) c → v < 2 ^ 64 → (setting_under after (macro_of l) ≡ set_to (Number v)) × (k ≡ c)
+  pub line_number : (v c : ℕ) → answer ≡ value (number v) c → v < 2 ^ 64 → (setting_under after (macro_of l) ≡ Some (Number v)) × (k ≡ c)
   line_number v c q h = (number_there after (record_set o x k t l δ e) v c q h, sym (made_number v c q).count)
 
   -- THE SECOND THEOREM
@@ -93,7 +95,7 @@ module _ (o : List Own) (x : Own) (k : ℕ) (t l : List ℕ) (δ : Dialect) (e :
       let y : Own = of_text (macro_of l) j s in
       let m = text_sets o x k y c q in
       rw (← m.1.same) (text_plain y j (same_byte j) m.0)
-  plain_record_lem (value (fault f) c) q = refuses (unplaced DEFINED_LONG) x k q
+  plain_record_lem (value (fault f) c) q = refuses (unplaced DefinedLong) x k q
   plain_record_lem (refused r) q = refuses _ x k q
 
   -- THE THIRD THEOREM

@@ -1,18 +1,19 @@
 -- What a DEFINE line says (document 02, order 6), if it is kept: `DEFINE`, blanks, the name of a macro, at most 64 bytes, `=` and an expression;
 -- blanks round the `=` are free. It sets the macro, or is refused: 22, then the refusals of the expression, then 28, then 27. `δ` is the dialect.
 use Rattle.std.specs.Prelude.{ℕ, ◌+◌, Bool, ◌&&◌, ◌||◌, List, length, get_or, take, drop, eqb, ltb, leb}
-use Rattle.units.specs.Refusals.{TEXT_MALFORMED, DEFINED_MANY, DEFINED_LONG, fault_at, unplaced, placed}
+use Rattle.units.specs.Refusals.{fault_at, unplaced, placed}
 use Rattle.units.specs.Dialects.{by_itself}
 use Rattle.units.specs.declared.Dialect.{Dialect}
 use Rattle.units.specs.declared.Fault.{Fault}
 use Rattle.units.specs.declared.Refusal.{Refusal}
+use Rattle.units.specs.declared.Reason.TheVariants.{DefinedLong, DefinedMany, TextMalformed}
 use Rattle.text.specs.Bytes.{byte, pick, blank}
 use Rattle.text.specs.Names.{macro_name}
 use Rattle.text.specs.Numbers.{lowest_bytes}
 use Rattle.text.specs.Runs.{span}
 use Rattle.text.specs.declared.runs.Set.TheVariants.{Blanks}
-use Rattle.lookup.specs.declared.TextKind.{TextKind}
 use Rattle.own.specs.Own.{Own, scope, has, MAX_OWN}
+use Rattle.lookup.specs.declared.TextKind.{TextKind}
 use Rattle.value.specs.Places.{over}
 use Rattle.value.specs.Kinds.{kind_number, of_text as kind_of_text}
 use Rattle.value.specs.Values.{number, text, fault}
@@ -70,26 +71,26 @@ of_text n k s = record { name = n; kind = kind_number (kind_of_text k); content 
 
 -- 27: no name besides those of the settings so far, if these are 64
 abbrev pub limited : List Own → Own → (count : ℕ) → Definition
-limited own x k = pick (has x.name own || ltb (length own) MAX_OWN) (sets x k) (fails (unplaced DEFINED_MANY))
+limited own x k = pick (has x.name own || ltb (length own) MAX_OWN) (sets x k) (fails (unplaced DefinedMany))
 
 -- 28: no string of more than 56 bytes
 abbrev pub limited_text : List Own → Own → (count : ℕ) → Definition
-limited_text own x k = pick (leb (length x.content) MAX_CONTENT) (limited own x k) (fails (unplaced DEFINED_LONG))
+limited_text own x k = pick (leb (length x.content) MAX_CONTENT) (limited own x k) (fails (unplaced DefinedLong))
 
 -- the refusal of an expression that starts at this byte of its line: its place in the expression becomes a place in the line
 abbrev pub in_line : (start : ℕ) → Refusal → Fault
-in_line p r = fault_at r.number (pick (placed r.number) (p + r.offset.0) 0)
+in_line p r = fault_at r.reason (pick (placed r.reason) (p + r.offset.0) 0)
 
 -- a name and the answer to an expression that starts at this byte of the line (the value of an answer is never a
 -- fault: any refusal would do there)
 unfoldable pub of_answer : List Own → (name : List ℕ) → (start : ℕ) → Evaluation → Definition
 of_answer own n p (value (number x) k) = limited own (of_number n x) k
 of_answer own n p (value (text j q s) k) = limited_text own (of_text n j s) k
-of_answer own n p (value (fault f) k) = fails (unplaced DEFINED_LONG)
+of_answer own n p (value (fault f) k) = fails (unplaced DefinedLong)
 of_answer own n p (refused r) = fails (in_line p r)
 
 -- the line l with the settings that lines before it made, over a table t; bars as in a data field
 unfoldable pub definition_of : List Own → (t l : List ℕ) → Dialect → Definition
 definition_of own t l δ =
     pick (shaped l) (of_answer own (macro_of l) (expression_start l) (evaluation_in (over (expression_of l) (scope own t)) (by_itself δ.old)))
-    (fails (unplaced TEXT_MALFORMED))
+    (fails (unplaced TextMalformed))

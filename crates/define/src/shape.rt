@@ -8,7 +8,7 @@ use text::runs::Set;
 use text::{bytes, names, runs};
 use units::Offset;
 
-// The name of the macro, by its start and its length, and the start of the expression. The length is 0 if the line has not this shape.
+// The name of the macro, by its start and its length, which is not 0, and the start of the expression.
 #[derive(Clone, Copy)]
 pub struct Parts {
     pub name: Offset,
@@ -19,31 +19,28 @@ pub struct Parts {
 // The largest number of bytes in a name.
 const MAX_NAME: usize = 64;
 
-// `first` is the first byte of the line that is no blank.
-pub fn split(line: &[u8], first: Offset) -> Parts
+// The parts of a line, if it has this shape. `first` is the first byte of the line that is no blank.
+#[tactic(auto, using(crate::proofs::Shapes::shape_tests))]
+pub fn split(line: &[u8], first: Offset) -> Option<Parts>
     requires { first.0 ≡ span Blanks line.now }
     ensures { Splits line.now result }
 {
-    let none = Parts {
-        name: first,
-        len: 0,
-        text: first,
-    };
     let after = Offset(first.0 + 6);
     if !runs::has(Set::Blanks, bytes::byte_at(line, after)) {
-        return none;
+        return None;
     }
     let name = runs::run_end(line, after, Set::Blanks);
-    let start = name.0;
-    let len = names::macro_name(&line[start..]);
-    if MAX_NAME < len {
-        return none;
+    let len = names::macro_name(&line[name.0..]);
+    if len == 0 || MAX_NAME < len {
+        return None;
     }
-    let end = Offset(start + len);
-    let equals = runs::run_end(line, end, Set::Blanks);
+    let equals = runs::run_end(line, Offset(name.0 + len), Set::Blanks);
     if bytes::byte_at(line, equals) != b'=' {
-        return none;
+        return None;
     }
-    let text = Offset(equals.0 + 1);
-    Parts { name, len, text }
+    Some(Parts {
+        name,
+        len,
+        text: Offset(equals.0 + 1),
+    })
 }

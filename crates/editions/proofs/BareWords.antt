@@ -1,4 +1,5 @@
 -- The token of the old edition is a bare word exactly where the order says, and its value is a string of its own bytes. Assumes nothing.
+use Rattle.std.specs.Prelude.{Err, Ok, Result}
 use Prim.Native.Nat.{ℕ}
 use native.Mathlib.Omega.{arith}
 use mathlib.Core.Path.{◌≡◌, refl, sym, ap, ◌∙◌}
@@ -7,9 +8,10 @@ use mathlib.Core.Bool.{Bool, true, false, ◌&&◌, false≢true}
 use mathlib.Core.List.{List}
 use lib.ListN.{get_or, take, drop}
 use lib.Dec.{ltb}
-use Rattle.units.specs.Refusals.{TOKEN_BAD}
 use Rattle.units.specs.Dialects.{in_new, in_old}
 use Rattle.units.specs.declared.Dialect.{Dialect}
+use Rattle.units.specs.declared.Reason.{Reason}
+use Rattle.units.specs.declared.Reason.TheVariants.{TokenBad}
 use Rattle.text.specs.Bytes.{initial, class_of}
 use Rattle.text.specs.Runs.{span}
 use Rattle.text.specs.Names.{macro_name, pcd_name}
@@ -19,11 +21,10 @@ use Rattle.text.specs.declared.runs.Set.TheVariants.{Word}
 use Rattle.text.proofs.Laws.{pick_both, class_case}
 use Rattle.codes.specs.Codes.{STRING, WIDE, BARE}
 use Rattle.codes.specs.Spellings.{words, found}
-use Rattle.codes.specs.declared.Scanned.{Scanned}
-use Rattle.codes.specs.declared.Scanned.TheVariants.{Found, Refused}
+use Rattle.codes.specs.declared.Lexeme.{Lexeme}
+use Rattle.lookup.specs.declared.TextKind.TheVariants.{String}
 use Rattle.lexeme.specs.Lexeme.{spelled, is_wide, or_bare, word_of, lexeme_by, lexeme}
 use Rattle.token.specs.Tokens.{Token}
-use Rattle.lookup.specs.declared.TextKind.TheVariants.{String}
 use Rattle.value.specs.Places.{Memory, in_expression}
 use Rattle.value.specs.Values.{text, primary_value}
 use Rattle.editions.specs.BareWords.{BareWord}
@@ -31,23 +32,23 @@ use Rattle.editions.proofs.SameTokens.{new_alone}
 use Rattle.editions.proofs.Codes.{Unbare, never_bare, number_unbare, string_unbare, macro_unbare, word_unbare, symbol_unbare, Only3, word_only_3}
 
 -- the length of a token
-abbrev length_of : Scanned → ℕ
-length_of (Found f) = f.len
-length_of (Refused r) = 0
+abbrev length_of : Result Lexeme Reason → ℕ
+length_of (Ok f) = f.len
+length_of (Err r) = 0
 
 module _ (after : Bool) (s : List ℕ) (n : ℕ) (δ : Dialect) where
   abbrev run : ℕ
   run = span Word s
 
   -- what is known of the old edition's x and the new one's y, if x is a bare word
-  abbrev Then : (x y : Scanned) → Type 0
-  Then x y = x ≡ found BARE n 0 → (after ≡ true) × (n ≡ run) × (is_wide s run ≡ false) × (y ≡ Refused TOKEN_BAD)
+  abbrev Then : (x y : Result Lexeme Reason) → Type 0
+  Then x y = x ≡ found BARE n 0 → (after ≡ true) × (n ≡ run) × (is_wide s run ≡ false) × (y ≡ Err TokenBad)
 
-  bare_then : (a : Bool) → after ≡ a → is_wide s run ≡ false → (x : Scanned) → Unbare x → Only3 x
+  bare_then : (a : Bool) → after ≡ a → is_wide s run ≡ false → (x : Result Lexeme Reason) → Unbare x → Only3 x
       → Then (or_bare (a && true) run x) (or_bare (a && false) run x)
-  bare_then a q w (Found f) u h e = never_bare (Found f) n 0 u e
-  bare_then true q w (Refused r) u h e = (q, sym (ap length_of e), w, ap Refused h)
-  bare_then false q w (Refused r) u h e = never_bare (Refused r) n 0 tt e
+  bare_then a q w (Ok f) u h e = never_bare (Ok f) n 0 u e
+  bare_then true q w (Err r) u h e = (q, sym (ap length_of e), w, ap Err h)
+  bare_then false q w (Err r) u h e = never_bare (Err r) n 0 tt e
 
   word_then : Then (word_of run after s (in_old δ)) (word_of run after s (in_new δ))
   unfolding word_of
@@ -59,7 +60,7 @@ module _ (after : Bool) (s : List ℕ) (n : ℕ) (δ : Dialect) where
   -- a bare word, by the class c of the first byte
   abbrev ThenBare : Class → Type 0
   ThenBare c = lexeme_by c after s (in_old δ) ≡ found BARE n 0
-      → (initial (get_or s 0 0) ≡ true) × (after ≡ true) × (n ≡ run) × (is_wide s run ≡ false) × (lexeme_by c after s (in_new δ) ≡ Refused TOKEN_BAD)
+      → (initial (get_or s 0 0) ≡ true) × (after ≡ true) × (n ≡ run) × (is_wide s run ≡ false) × (lexeme_by c after s (in_new δ) ≡ Err TokenBad)
 
   is_bare : ThenBare (class_of (get_or s 0 0))
   unfolding lexeme_by
@@ -67,11 +68,11 @@ module _ (after : Bool) (s : List ℕ) (n : ℕ) (δ : Dialect) where
       class_case (get_or s 0 0) ThenBare (λ i e. let w = word_then e in (i, w.0, w.1, w.2, w.3))
       (λ _ e. never_bare _ n 0 (number_unbare run s) e)
       (λ _ e. never_bare _ n 0 (string_unbare STRING 0 s (λ c. omega arith)) e)
-      (λ e. never_bare (Refused TOKEN_BAD) n 0 tt e)
+      (λ e. never_bare (Err TokenBad) n 0 tt e)
       (λ e. never_bare _ n 0 (symbol_unbare s) e)
       (λ e. never_bare _ n 0 (macro_unbare (macro_name (drop 2 s)) s) e)
-      (λ e. never_bare (Refused TOKEN_BAD) n 0 tt e)
-      (λ e. never_bare (Refused TOKEN_BAD) n 0 tt e)
+      (λ e. never_bare (Err TokenBad) n 0 tt e)
+      (λ e. never_bare (Err TokenBad) n 0 tt e)
 
   to : lexeme after s (in_old δ) ≡ found BARE n 0 → BareWord after s n δ
   unfolding lexeme
@@ -86,15 +87,15 @@ module _ (after : Bool) (s : List ℕ) (n : ℕ) (δ : Dialect) where
       }
 
   module _ (b : BareWord after s n δ) where
-    abbrev Back : (x y : Scanned) → Type 0
-    Back x y = y ≡ Refused TOKEN_BAD → x ≡ found BARE n 0
+    abbrev Back : (x y : Result Lexeme Reason) → Type 0
+    Back x y = y ≡ Err TokenBad → x ≡ found BARE n 0
 
-    found_not : {A : Type 0} (c k v : ℕ) → found c k v ≡ Refused TOKEN_BAD → A
-    found_not c k v e = let z : ◌≡◌ {A = ℕ} 0 1 = cc in absurd (omega arith)
+    found_not : {A : Type 0} (c k v : ℕ) → found c k v ≡ Err TokenBad → A
+    found_not c k v e = absurd cc
 
-    bare_back : (x : Scanned) → Back (or_bare (after && true) run x) (or_bare (after && false) run x)
-    bare_back (Found f) e = found_not f.code f.len f.value e
-    bare_back (Refused r) e = rw (b.after_equality, b.whole_run)
+    bare_back : (x : Result Lexeme Reason) → Back (or_bare (after && true) run x) (or_bare (after && false) run x)
+    bare_back (Ok f) e = found_not f.code f.len f.value e
+    bare_back (Err r) e = rw (b.after_equality, b.whole_run)
 
     word_back : Back (word_of run after s (in_old δ)) (word_of run after s (in_new δ))
     unfolding word_of
@@ -110,7 +111,7 @@ module _ (after : Bool) (s : List ℕ) (n : ℕ) (δ : Dialect) where
     from : lexeme after s (in_old δ) ≡ found BARE n 0
     unfolding lexeme lexeme_by
     from =
-        let e : lexeme_by Initial after s (in_new δ) ≡ Refused TOKEN_BAD = rw first_class at (new_alone after s δ ∙ b.refused_in_new) in
+        let e : lexeme_by Initial after s (in_new δ) ≡ Err TokenBad = rw first_class at (new_alone after s δ ∙ b.refused_in_new) in
         rw first_class (word_back e)
 
   -- THE THEOREM

@@ -1,4 +1,5 @@
 -- The code of a bare word is no other token's, and a run is refused with 3 only. Assumes nothing.
+use Rattle.std.specs.Prelude.{Err, Ok, Result}
 use Prim.Native.Nat.{ℕ, ◌+◌}
 use native.Mathlib.Omega.{arith}
 use mathlib.Core.Path.{◌≡◌, refl}
@@ -7,25 +8,25 @@ use mathlib.Core.List.{List, [], ◌∷◌}
 use lib.ListN.{get_or, drop}
 use lib.Dec.{eqb, ltb}
 use borrow.Author.Tests.{eqb-false, not-true}
-use Rattle.units.specs.Refusals.{TOKEN_BAD}
+use Rattle.units.specs.declared.Reason.{Reason}
+use Rattle.units.specs.declared.Reason.TheVariants.{TokenBad}
 use Rattle.text.specs.Bytes.{byte}
 use Rattle.text.specs.Runs.{span, string_set}
 use Rattle.text.specs.Order.{equal}
 use Rattle.text.proofs.Laws.{pick_case, and_left, and_right}
 use Rattle.codes.specs.Codes.{BARE}
 use Rattle.codes.specs.Spellings.{Spelling, words, symbols}
-use Rattle.codes.specs.declared.Scanned.{Scanned}
-use Rattle.codes.specs.declared.Scanned.TheVariants.{Found, Refused}
+use Rattle.codes.specs.declared.Lexeme.{Lexeme}
 use Rattle.literal.specs.Literal.{literal, is_decimal, is_hexadecimal, hexadecimal_of, number_of}
 use Rattle.lexeme.specs.Lexeme.{string_of, string_at, spelled, macro_of, begins, leading}
 
-abbrev pub Unbare : Scanned → Type 0
-Unbare (Found f) = f.code ≡ BARE → ⊥
-Unbare (Refused r) = Unit
+abbrev pub Unbare : Result Lexeme Reason → Type 0
+Unbare (Ok f) = f.code ≡ BARE → ⊥
+Unbare (Err r) = Unit
 
 -- so a token of that code is not such a one
-pub never_bare : {A : Type 0} (x : Scanned) (n v : ℕ) → Unbare x → x ≡ Found (record { code = BARE; len = n; value = v }) → A
-never_bare x n v u e = let w : Unbare (Found (record { code = BARE; len = n; value = v })) = rw e at u in absurd (w refl)
+pub never_bare : {A : Type 0} (x : Result Lexeme Reason) (n v : ℕ) → Unbare x → x ≡ Ok (record { code = BARE; len = n; value = v }) → A
+never_bare x n v u e = let w : Unbare (Ok (record { code = BARE; len = n; value = v })) = rw e at u in absurd (w refl)
 
 literal_unbare : (n v : ℕ) → Unbare (literal n v)
 unfolding literal
@@ -74,9 +75,9 @@ pub symbol_unbare : (s : List ℕ) → Unbare (leading symbols s)
 symbol_unbare s = leading_unbare symbols s refl
 
 -- refused with 3, if refused
-abbrev pub Only3 : Scanned → Type 0
-Only3 (Found f) = Unit
-Only3 (Refused r) = r ≡ TOKEN_BAD
+abbrev pub Only3 : Result Lexeme Reason → Type 0
+Only3 (Ok f) = Unit
+Only3 (Err r) = r ≡ TokenBad
 
 spelled_only_3 : (xs : List Spelling) (w : List ℕ) → Only3 (spelled xs w)
 unfolding spelled

@@ -1,5 +1,6 @@
 -- A bare word that is read is the next token after an equality operator, and the edition is the old one: by induction on the bytes. Assumes
 -- nothing.
+use Rattle.std.specs.Prelude.{Err, Ok, Result}
 use Prim.Native.Nat.{ℕ, zero, suc, ◌-◌}
 use native.Mathlib.Omega.{arith}
 use mathlib.Core.Path.{◌≡◌, refl}
@@ -11,18 +12,18 @@ use lib.ListN.{length, get_or, take, drop}
 use lib.Dec.{ltb}
 use Rattle.units.specs.Dialects.{in_new}
 use Rattle.units.specs.declared.Dialect.{Dialect}
+use Rattle.units.specs.declared.Reason.{Reason}
 use Rattle.text.specs.Bytes.{class_of}
 use Rattle.text.specs.Runs.{span}
 use Rattle.text.specs.Names.{macro_name, pcd_name}
 use Rattle.text.specs.declared.bytes.Class.{Class}
-use Rattle.text.specs.declared.bytes.Class.TheVariants.{Initial, Digit, Quote, Blank, Operator, Dollar, Comment, Other}
+use Rattle.text.specs.declared.bytes.Class.TheVariants.{Initial, Digit, Quote, Blank, Operator, Dollar, Comment}
 use Rattle.text.specs.declared.runs.Set.TheVariants.{Word}
 use Rattle.text.proofs.Laws.{pick_case}
 use Rattle.codes.specs.Codes.{STRING, WIDE, BARE}
 use Rattle.codes.specs.Levels.{is_equality}
 use Rattle.codes.specs.Spellings.{words, symbols}
-use Rattle.codes.specs.declared.Scanned.{Scanned}
-use Rattle.codes.specs.declared.Scanned.TheVariants.{Found, Refused}
+use Rattle.codes.specs.declared.Lexeme.{Lexeme}
 use Rattle.literal.specs.Literal.{number_of}
 use Rattle.lexeme.specs.Lexeme.{string_at, spelled, is_wide, or_bare, word_of, macro_of, leading, lexeme_by, lexeme}
 use Rattle.token.specs.Tokens.{MAX_BYTES, MAX_TOKENS, Token, Reading, read_token, read_byte, read_from, reading}
@@ -33,23 +34,23 @@ use Rattle.editions.proofs.Codes.{Unbare, number_unbare, string_unbare, macro_un
 abbrev May : (after old : Bool) → Type 0
 May after old = (after ≡ true) × (old ≡ true)
 
-abbrev OnlyThere : (after old : Bool) → Scanned → Type 0
-OnlyThere after old (Found f) = f.code ≡ BARE → May after old
-OnlyThere after old (Refused r) = Unit
+abbrev OnlyThere : (after old : Bool) → Result Lexeme Reason → Type 0
+OnlyThere after old (Ok f) = f.code ≡ BARE → May after old
+OnlyThere after old (Err r) = Unit
 
 abbrev Placed : (after old : Bool) → List Token → Type 0
 Placed after old [] = Unit
 Placed after old (k ∷ ks) = (k.code ≡ BARE → May after old) × Placed (is_equality k.code) old ks
 
-other_there : (after old : Bool) (x : Scanned) → Unbare x → OnlyThere after old x
-other_there after old (Found f) u = λ c. absurd (u c)
-other_there after old (Refused r) u = tt
+other_there : (after old : Bool) (x : Result Lexeme Reason) → Unbare x → OnlyThere after old x
+other_there after old (Ok f) u = λ c. absurd (u c)
+other_there after old (Err r) u = tt
 
-run_there : (after old : Bool) (n : ℕ) (x : Scanned) → Unbare x → OnlyThere after old (or_bare (after && old) n x)
-run_there after old n (Found f) u = λ c. absurd (u c)
-run_there true true n (Refused r) u = λ c. (refl, refl)
-run_there true false n (Refused r) u = tt
-run_there false old n (Refused r) u = tt
+run_there : (after old : Bool) (n : ℕ) (x : Result Lexeme Reason) → Unbare x → OnlyThere after old (or_bare (after && old) n x)
+run_there after old n (Ok f) u = λ c. absurd (u c)
+run_there true true n (Err r) u = λ c. (refl, refl)
+run_there true false n (Err r) u = tt
+run_there false old n (Err r) u = tt
 
 module _ (δ : Dialect) where
   lexeme_there : (after : Bool) (s : List ℕ) → OnlyThere after δ.old (lexeme after s δ)
@@ -67,9 +68,7 @@ module _ (δ : Dialect) where
       by Quote = other_there after δ.old (string_at STRING 0 s) (string_unbare STRING 0 s (λ c. omega arith))
       by Operator = other_there after δ.old (leading symbols s) (symbol_unbare s)
       by Dollar = other_there after δ.old (macro_of (macro_name (drop 2 s)) s) (macro_unbare (macro_name (drop 2 s)) s)
-      by Other = tt
-      by Blank = tt
-      by Comment = tt
+      by _ = tt
 
   abbrev PlacedFrom : (at room k : ℕ) → (after : Bool) → List ℕ → Type 0
   PlacedFrom at room k after s = Placed after δ.old (read_from at room k after s δ).tokens
@@ -81,22 +80,17 @@ module _ (δ : Dialect) where
   placed_from at room zero after (b ∷ s) =
       by_byte (class_of b) room (lexeme after (b ∷ s) δ) (lexeme_there after (b ∷ s)) (λ room' k' a'. placed_from (suc at) room' k' a' s)
     where
-      by_token : (room : ℕ) (x : Scanned) → OnlyThere after δ.old x → ((room' k' : ℕ) (a' : Bool) → PlacedFrom (suc at) room' k' a' s)
+      by_token : (room : ℕ) (x : Result Lexeme Reason) → OnlyThere after δ.old x → ((room' k' : ℕ) (a' : Bool) → PlacedFrom (suc at) room' k' a' s)
           → Placed after δ.old (read_token room x at (λ room' k' a'. read_from (suc at) room' k' a' s δ)).tokens
       by_token zero x u ih = tt
-      by_token (suc room) (Refused r) u ih = tt
-      by_token (suc room) (Found f) u ih = (u, ih room (f.len - 1) (is_equality f.code))
+      by_token (suc room) (Err r) u ih = tt
+      by_token (suc room) (Ok f) u ih = (u, ih room (f.len - 1) (is_equality f.code))
 
-      by_byte : (c : Class) (room : ℕ) (x : Scanned) → OnlyThere after δ.old x → ((room' k' : ℕ) (a' : Bool) → PlacedFrom (suc at) room' k' a' s)
+      by_byte : (c : Class) (room : ℕ) (x : Result Lexeme Reason) → OnlyThere after δ.old x → ((room' k' : ℕ) (a' : Bool) → PlacedFrom (suc at) room' k' a' s)
           → Placed after δ.old (read_byte c after room x at (λ room' k' a'. read_from (suc at) room' k' a' s δ)).tokens
       by_byte Blank room x u ih = ih room 0 after
       by_byte Comment room x u ih = tt
-      by_byte Initial room x u ih = by_token room x u ih
-      by_byte Digit room x u ih = by_token room x u ih
-      by_byte Quote room x u ih = by_token room x u ih
-      by_byte Operator room x u ih = by_token room x u ih
-      by_byte Dollar room x u ih = by_token room x u ih
-      by_byte Other room x u ih = by_token room x u ih
+      by_byte _ room x u ih = by_token room x u ih
 
   placed : (e : List ℕ) → Placed false δ.old (reading e δ).tokens
   unfolding reading

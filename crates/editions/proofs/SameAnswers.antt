@@ -1,27 +1,27 @@
 -- Where the new edition's answer to an expression, or its field, is not refused with 3, the old one's is the same. Assumes nothing.
+use Rattle.std.specs.Prelude.{Err, Ok, Result}
 use Prim.Native.Nat.{ℕ}
 use native.Mathlib.Omega.{arith}
 use mathlib.Core.Path.{◌≡◌, refl, ap, ◌∙◌}
 use mathlib.Core.List.{List}
-use Rattle.units.specs.Refusals.{TOKEN_BAD}
 use Rattle.units.specs.Dialects.{in_new, in_old}
 use Rattle.units.specs.declared.Dialect.{Dialect}
+use Rattle.units.specs.Refusals.{TOKEN_BAD}
+use Rattle.units.specs.declared.Offset.{Offset}
+use Rattle.units.specs.declared.Refusal.{Refusal}
 use Rattle.text.proofs.Laws.{pick_both}
 use Rattle.settings.specs.Table.{well_formed}
 use Rattle.token.specs.Tokens.{ending_number, reading}
-use Rattle.token.specs.declared.scan.Ending.{Ending}
-use Rattle.token.specs.declared.scan.Ending.TheVariants.{Complete, Refused}
 use Rattle.value.specs.Places.{Memory}
 use Rattle.value.specs.Values.{Value}
 use Rattle.evaluation.specs.Evaluation.{Evaluation, value, refused, refusal_number, of_tokens, ended, evaluation_in, evaluation}
-use Rattle.datum.specs.declared.Written.TheVariants.{Length}
 use Rattle.field.specs.Fields.{written_number, written, field_of}
 use Rattle.editions.proofs.SameReading.{same_reading}
 
 -- a reading that ends in 3 makes the answer 3
-unread : (x : Ending) (k : ℕ → Evaluation) → (refusal_number (ended x k) ≡ TOKEN_BAD → ⊥) → ending_number x ≡ TOKEN_BAD → ⊥
-unread (Refused r) k h e = h e
-unread (Complete end) k h e = omega arith
+unread : (x : Result Offset Refusal) (k : ℕ → Evaluation) → (refusal_number (ended x k) ≡ TOKEN_BAD → ⊥) → ending_number x ≡ TOKEN_BAD → ⊥
+unread (Err r) k h e = h e
+unread (Ok end) k h e = omega arith
 
 module _ (m : Memory) (δ : Dialect) where
   pub same_answer_in : (refusal_number (evaluation_in m (in_new δ)) ≡ TOKEN_BAD → ⊥) → evaluation_in m (in_old δ) ≡ evaluation_in m (in_new δ)
@@ -45,6 +45,6 @@ module _ (m : Memory) (δ : Dialect) where
     unfolding field_of
     same_field h = ap (λ x. written x datum buffer) (same_answer (unwritten (evaluation m (in_new δ)) h))
 
-    pub same_written : (n : ℕ) (left : List ℕ) → field_of m datum buffer (in_new δ) ≡ record { answer = Length n; buffer = left }
-        → field_of m datum buffer (in_old δ) ≡ record { answer = Length n; buffer = left }
+    pub same_written : (n : ℕ) (left : List ℕ) → field_of m datum buffer (in_new δ) ≡ record { answer = Ok n; buffer = left }
+        → field_of m datum buffer (in_old δ) ≡ record { answer = Ok n; buffer = left }
     same_written n left e = same_field (rw e (λ z. omega arith)) ∙ e

@@ -1,44 +1,40 @@
 -- Where the new edition refuses an expression or a macro's name neither with 3 nor with 22, both editions make the same condition of it.
 -- Assumes nothing.
+use Rattle.std.specs.Prelude.{Err, Ok, Result}
 use Prim.Native.Nat.{ℕ}
 use native.Mathlib.Omega.{arith}
 use mathlib.Core.Path.{◌≡◌, refl, ap}
 use mathlib.Core.Bool.{Bool, true, false}
 use mathlib.Core.List.{List}
-use lib.ListN.{get_or, drop}
+use lib.ListN.{get_or}
 use lib.Dec.{eqb}
 use borrow.Author.Tests.{eqb-true}
-use Rattle.units.specs.Refusals.{TOKEN_BAD, TEXT_MALFORMED}
 use Rattle.units.specs.Dialects.{in_directives, in_new, in_old}
 use Rattle.units.specs.declared.Dialect.{Dialect}
+use Rattle.units.specs.declared.Fault.{Fault}
+use Rattle.units.specs.Refusals.{reason_number, TOKEN_BAD, TEXT_MALFORMED}
 use Rattle.text.specs.Bytes.{byte}
-use Rattle.text.specs.Runs.{span}
 use Rattle.text.specs.Names.{macro_name}
-use Rattle.text.specs.declared.runs.Set.TheVariants.{Blanks}
 use Rattle.text.proofs.Laws.{pick_both}
 use Rattle.value.specs.Places.{over}
-use Rattle.value.specs.Values.{number}
 use Rattle.evaluation.specs.Evaluation.{Evaluation, value, refused, refusal_number, evaluation_in}
-use Rattle.line.specs.Directives.{text_start, text_of}
-use Rattle.line.specs.declared.Directive.{Directive}
-use Rattle.line.specs.declared.Directive.TheVariants.{Plain, If, Ifdef, Ifndef, Elseif, Else, Endif, Unknown}
 use Rattle.line.specs.declared.Condition.{Condition}
-use Rattle.line.specs.declared.Condition.TheVariants.{Holds, Fails, Refused}
-use Rattle.condition.specs.Conditions.{spaced, of_answer, of_expression, name_at, plain_name, of_named, of_macro, evaluate, in_line, condition_of}
+use Rattle.line.specs.declared.Condition.TheVariants.{Holds, Fails}
+use Rattle.condition.specs.Conditions.{spaced, of_answer, of_expression, name_at, plain_name, of_named}
 use Rattle.editions.proofs.SameAnswers.{same_answer_in}
 
 -- the number of a refusal, 0 if there is none
-abbrev pub condition_number : Condition → ℕ
-condition_number (Holds n) = 0
-condition_number (Fails n) = 0
-condition_number (Refused f) = f.number
+abbrev pub condition_number : Result Condition Fault → ℕ
+condition_number (Ok (Holds n)) = 0
+condition_number (Ok (Fails n)) = 0
+condition_number (Err f) = reason_number f.reason
 
 -- refused neither with 3 nor with 22
 abbrev pub Fine : ℕ → Type 0
 Fine n = (n ≡ TOKEN_BAD → ⊥) × (n ≡ TEXT_MALFORMED → ⊥)
 
 -- the old edition's condition x is the new one's y, if y is fine
-abbrev pub Same : (x y : Condition) → Type 0
+abbrev pub Same : (x y : Result Condition Fault) → Type 0
 Same x y = Fine (condition_number y) → x ≡ y
 
 unanswered : (x : Evaluation) → Fine (condition_number (of_answer x)) → refusal_number x ≡ TOKEN_BAD → ⊥

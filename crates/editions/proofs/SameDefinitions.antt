@@ -3,9 +3,9 @@ use Prim.Native.Nat.{ℕ}
 use native.Mathlib.Omega.{arith}
 use mathlib.Core.Path.{◌≡◌, refl, ap}
 use mathlib.Core.List.{List}
-use Rattle.units.specs.Refusals.{TOKEN_BAD}
 use Rattle.units.specs.Dialects.{NEW, in_new, in_old}
 use Rattle.units.specs.declared.Dialect.{Dialect}
+use Rattle.units.specs.Refusals.{reason_number, TOKEN_BAD}
 use Rattle.text.proofs.Laws.{pick_both}
 use Rattle.own.specs.Own.{Own, scope}
 use Rattle.value.specs.Places.{Memory, over}
@@ -17,7 +17,7 @@ use Rattle.editions.proofs.SameConditions.{Fine}
 -- the number of a refusal, 0 if there is none
 abbrev pub definition_number : Definition → ℕ
 definition_number (sets x k) = 0
-definition_number (fails f) = f.number
+definition_number (fails f) = reason_number f.reason
 
 -- what the old edition says is what the new one says, y, if y is fine
 abbrev Same : (x y : Definition) → Type 0

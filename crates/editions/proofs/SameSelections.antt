@@ -1,4 +1,5 @@
 -- A selection that the new edition refuses neither with 3 nor with 22 is the same in the old one: line by line. Assumes nothing.
+use Rattle.std.specs.Prelude.{Err, Ok, Result as Answered}
 use Prim.Native.Nat.{ℕ, ◌+◌}
 use native.Mathlib.Omega.{arith}
 use mathlib.Core.Path.{◌≡◌, refl, ap, ◌∙◌}
@@ -7,6 +8,8 @@ use lib.ListN.{length}
 use lib.Dec.{ltb}
 use Rattle.units.specs.Dialects.{in_new, in_old}
 use Rattle.units.specs.declared.Dialect.{Dialect}
+use Rattle.units.specs.declared.Fault.{Fault}
+use Rattle.units.specs.Refusals.{reason_number}
 use Rattle.text.proofs.Laws.{pick_both}
 use Rattle.settings.specs.Table.{well_formed}
 use Rattle.own.specs.Own.{scope}
@@ -14,7 +17,7 @@ use Rattle.line.specs.Lines.{lines}
 use Rattle.line.specs.Directives.{directive_of}
 use Rattle.line.specs.declared.Directive.{Directive}
 use Rattle.line.specs.declared.Condition.{Condition}
-use Rattle.line.specs.declared.Condition.TheVariants.{Holds, Fails, Refused}
+use Rattle.line.specs.declared.Condition.TheVariants.{Holds, Fails}
 use Rattle.condition.specs.Conditions.{condition_of}
 use Rattle.define.specs.Define.{Definition, sets, fails, definition_of}
 use Rattle.groups.specs.Rules.{plan}
@@ -30,7 +33,7 @@ use Rattle.editions.proofs.SameDefinitions.{definition_number, same_definition}
 -- the number of a refusal, 0 if there is none
 abbrev outcome_number : Outcome → ℕ
 outcome_number (go m s) = 0
-outcome_number (stop x) = x.number
+outcome_number (stop x) = reason_number x.reason
 
 abbrev SameOutcome : (x y : Outcome) → Type 0
 SameOutcome x y = Fine (outcome_number y) → x ≡ y
@@ -46,15 +49,17 @@ fine_0 : Fine 0
 fine_0 = (λ e. omega arith, λ e. omega arith)
 
 -- a line that is read and not refused so has a condition that is not refused so
-fine_condition : (d : Directive) (n : ℕ) (s : State) (c : Condition) → Fine (outcome_number (planned Read d c n s)) → Fine (condition_number c)
-fine_condition d n s (Holds k) h = fine_0
-fine_condition d n s (Fails k) h = fine_0
-fine_condition d n s (Refused f) h = h
+fine_condition : (d : Directive) (n : ℕ) (s : State) (c : Answered Condition Fault)
+    → Fine (outcome_number (planned (Ok Read) d c n s)) → Fine (condition_number c)
+fine_condition d n s (Ok (Holds k)) h = fine_0
+fine_condition d n s (Ok (Fails k)) h = fine_0
+fine_condition d n s (Err f) h = h
 
-same_planned : (t : List ℕ) (δ : Dialect) (p : Plan) (d : Directive) (l : List ℕ) (n : ℕ) (s : State)
+same_planned : (t : List ℕ) (δ : Dialect) (p : Answered Plan Fault) (d : Directive) (l : List ℕ) (n : ℕ) (s : State)
     → SameOutcome (planned p d (condition_of t d l (in_old δ)) n s) (planned p d (condition_of t d l (in_new δ)) n s)
-same_planned t δ Read d l n s h = ap (λ c. planned Read d c n s) (same_condition t δ d l (fine_condition d n s (condition_of t d l (in_new δ)) h))
-same_planned t δ (Unread r) d l n s h = refl
+same_planned t δ (Ok Read) d l n s h = ap (λ c. planned (Ok Read) d c n s) (same_condition t δ d l (fine_condition d n s (condition_of t d l (in_new δ)) h))
+same_planned t δ (Ok (Unread r)) d l n s h = refl
+same_planned t δ (Err f) d l n s h = refl
 
 -- a DEFINE line that is not refused so says nothing that is refused so
 fine_definition : (s : State) (x : Definition) → Fine (outcome_number (defined x s)) → Fine (definition_number x)

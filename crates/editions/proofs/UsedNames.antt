@@ -1,5 +1,7 @@
 -- After `!ifdef` and `!ifndef` the editions differ in `$(NAME)` alone: the old one takes it for NAME, and to the new one it is malformed. Assumes
 -- nothing.
+use Rattle.std.specs.Option.{is_some}
+use Rattle.std.specs.Prelude.{Err, Result}
 use Prim.Native.Nat.{ℕ, suc, ◌+◌, ◌<◌}
 use native.Mathlib.Omega.{arith}
 use mathlib.Core.Path.{◌≡◌, refl, sym, ap, ◌∙◌}
@@ -10,20 +12,21 @@ use lib.ListN.{length, get_or, take, drop, take-append-drop}
 use lib.Seq.{take-append_seam, drop-append_seam, drop-append-add, drop-cons, drop-drop}
 use lib.Dec.{eqb, ltb}
 use borrow.Author.Tests.{eqb-true, ne_eqb, ltb-true, lt-ltb}
-use Rattle.units.specs.Refusals.{TEXT_MALFORMED, unplaced}
+use Rattle.units.specs.Refusals.{unplaced}
 use Rattle.units.specs.Dialects.{in_new, in_old}
 use Rattle.units.specs.declared.Dialect.{Dialect}
+use Rattle.units.specs.declared.Fault.{Fault}
+use Rattle.units.specs.declared.Reason.TheVariants.{TextMalformed}
 use Rattle.text.specs.Bytes.{byte, bytes}
 use Rattle.text.specs.Runs.{holds}
 use Rattle.text.specs.Names.{macro_name}
 use Rattle.text.specs.declared.runs.Set.TheVariants.{Blanks}
 use Rattle.text.proofs.Laws.{inside}
 use Rattle.text.proofs.NameRuns.{span_stops, span_first, first_byte, capital}
+use Rattle.lookup.specs.Setting.{setting_under}
 use Rattle.line.specs.declared.Directive.{Directive}
 use Rattle.line.specs.declared.Directive.TheVariants.{Ifdef, Ifndef, Else, Endif}
 use Rattle.line.specs.declared.Condition.{Condition}
-use Rattle.line.specs.declared.Condition.TheVariants.{Refused}
-use Rattle.lookup.specs.Setting.{setting_under}
 use Rattle.condition.specs.Conditions.{spaced, idle, name_over, name_at, present, decided, of_named, of_macro, evaluate}
 use Rattle.define.proofs.Pieces.{no_blank, name_before}
 use Rattle.editions.specs.UsedNames.{past_blanks, SomeBlanks, Name, used, Uses}
@@ -31,8 +34,8 @@ use Rattle.editions.proofs.SameConditions.{no_name, new_name}
 use Rattle.editions.proofs.Names.{byte_after, ends_name, name_taken}
 
 -- what is malformed
-abbrev malformed : Condition
-malformed = Refused (unplaced TEXT_MALFORMED)
+abbrev malformed : Result Condition Fault
+malformed = Err (unplaced TextMalformed)
 
 -- the two directives
 abbrev pub OfMacro : Directive → Type 0
@@ -88,20 +91,20 @@ after_use : (w r : List ℕ) → drop (length w + 3) (used w r) ≡ r
 after_use w r = let e : length w + 3 ≡ suc (suc (length w + 1)) = omega arith in rw e (drop-append-add w (bytes ")" ++ r) 1)
 
 module _ (t : List ℕ) (δ : Dialect) (b w r : List ℕ) (blanks : SomeBlanks b) (name : Name w) (h : idle r ≡ true) where
-  used_found : present t (used w r) (name_over 2 (length w) (length w + 3)) ≡ (setting_under t w).found
-  used_found = ap (λ n. (setting_under t n).found) (take-append_seam w (bytes ")" ++ r))
+  used_found : present t (used w r) (name_over 2 (length w) (length w + 3)) ≡ is_some (setting_under t w)
+  used_found = ap (λ n. is_some (setting_under t n)) (take-append_seam w (bytes ")" ++ r))
 
-  plain_found : present t (w ++ r) (name_over 0 (length w) (length w)) ≡ (setting_under t w).found
-  plain_found = ap (λ n. (setting_under t n).found) (take-append_seam w r)
+  plain_found : present t (w ++ r) (name_over 0 (length w) (length w)) ≡ is_some (setting_under t w)
+  plain_found = ap (λ n. is_some (setting_under t n)) (take-append_seam w r)
 
   -- `$(NAME)` in the old edition
-  used_named : (wanted : Bool) → of_named t wanted (used w r) (name_at (used w r) (in_old δ)) ≡ decided wanted (setting_under t w).found
+  used_named : (wanted : Bool) → of_named t wanted (used w r) (name_at (used w r) (in_old δ)) ≡ decided wanted (is_some (setting_under t w))
   unfolding of_named name_at
   used_named wanted =
       rw (name_before w (bytes ")" ++ r) name.some name.whole refl, closed w r, lt-ltb 0 (length w) name.some, after_use w r, h, used_found)
 
   -- NAME in the new one
-  plain_named : (wanted : Bool) → of_named t wanted (w ++ r) (name_at (w ++ r) (in_new δ)) ≡ decided wanted (setting_under t w).found
+  plain_named : (wanted : Bool) → of_named t wanted (w ++ r) (name_at (w ++ r) (in_new δ)) ≡ decided wanted (is_some (setting_under t w))
   unfolding of_named
   plain_named wanted =
       let n = name_before w r name.some name.whole (ends_name r h) in
@@ -143,7 +146,7 @@ module _ (s : List ℕ) (dollar : get_or s 0 0 ≡ byte "$") (opened : eqb (get_
 
 -- what is no use is malformed
 module _ (t : List ℕ) (δ : Dialect) where
-  abbrev UsesOr : Condition → List ℕ → Type 0
+  abbrev UsesOr : Result Condition Fault → List ℕ → Type 0
   UsesOr c s = (c ≡ malformed) ⊎ ((w : List ℕ) × (r : List ℕ) × Uses s w r)
 
   named_or : (wanted : Bool) (s : List ℕ) → get_or s 0 0 ≡ byte "$" → UsesOr (of_named t wanted s (name_at s (in_old δ))) s
@@ -165,7 +168,7 @@ module _ (t : List ℕ) (δ : Dialect) where
       by false c l i p q x y = inl (rw (e, p))
 
   -- the same after a word, where a blank has to come first
-  abbrev SpacedUseOr : Condition → List ℕ → Type 0
+  abbrev SpacedUseOr : Result Condition Fault → List ℕ → Type 0
   SpacedUseOr c s = (c ≡ malformed) ⊎ ((spaced s ≡ true) × (w : List ℕ) × (r : List ℕ) × Uses (past_blanks s) w r)
 
   macro_or : (wanted : Bool) (s : List ℕ) → get_or (past_blanks s) 0 0 ≡ byte "$" → SpacedUseOr (of_macro t wanted s (in_old δ)) s

@@ -1,11 +1,12 @@
 -- After a scan the arrays hold the tokens of the list, one after the other. Assumes nothing.
+use Rattle.std.specs.Prelude.{Ok}
 use Prim.Native.Nat.{ℕ, zero, suc, ◌+◌, ◌≤◌, ◌<◌}
 use native.Mathlib.Omega.{arith}
 use mathlib.Core.Path.{◌≡◌, refl, sym, ap, ◌∙◌, fun_ext}
 use mathlib.Core.Bool.{Bool, true, false}
 use mathlib.Core.List.{List, [], ◌∷◌, ◌++◌, map, append_assoc}
 use lib.ListN.{length, get_or, drop, length-map, length-append, get_or-eq_default}
-use lib.Seq.{sets-eq, length-sets}
+use lib.Seq.{sets-eq}
 use lib.Dec.{ltb}
 use borrow.Author.Tests.{ltb-true, ltb-false}
 use Rattle.units.specs.declared.Dialect.{Dialect}
@@ -13,10 +14,8 @@ use Rattle.units.specs.declared.Offset.{Offset}
 use Rattle.text.specs.Parts.{stored}
 use Rattle.token.specs.Tokens.{Token, Reading, reading, Stored}
 use Rattle.token.specs.Steps.{Room}
-use Rattle.token.specs.declared.scan.Ending.TheVariants.{Complete}
-use Rattle.token.proofs.Reading.{most_tokens}
-use Rattle.expression.specs.Parsing.{token_at, Holding}
 use Rattle.value.specs.Places.{Memory}
+use Rattle.expression.specs.Parsing.{token_at}
 use Rattle.leftmost.specs.Tokens.{tokens_from}
 use Rattle.evaluation.specs.Arrays.{of_arrays}
 use Rattle.evaluation.specs.Evaluation.{END_TOKEN, token_in, of_tokens, evaluation_in}
@@ -77,36 +76,17 @@ from_list us (t ∷ ts) =
     let rest = tokens_from (token_in all) (length us + 1) (length ts) in
     ap (λ (u : Token). u ∷ rest) here ∙ ap (λ (l : List Token). t ∷ l) (moved ∙ shifted ∙ from_list past ts)
 
-module _ (m : Memory) (δ : Dialect) {cs₀ ss₀ ls₀ vs₀ cs ss ls vs : List ℕ} (room : Room (reading m.expression δ) cs₀ ss₀ ls₀ vs₀)
-    (so : Stored (reading m.expression δ) cs₀ ss₀ ls₀ vs₀ cs ss ls vs)
+module _ (m : Memory) (δ : Dialect) {cs₀ ss₀ ls₀ vs₀ cs ss ls vs : List ℕ} (so : Stored (reading m.expression δ) cs₀ ss₀ ls₀ vs₀ cs ss ls vs)
+    (room : Room (reading m.expression δ) cs₀ ss₀ ls₀ vs₀)
   where
     abbrev read : Reading
     read = reading m.expression δ
 
-    kept : (f : Token → ℕ) (l l' : List ℕ) → l' ≡ stored (map f read.tokens) l → length l' ≡ length l
-    kept f l l' q = ap length q ∙ length-sets l 0 (map f read.tokens)
-
-    -- the arrays hold the tokens
-    pub holding : (n : ℕ) → n ≡ length read.tokens → Holding cs ss ls vs n
-    holding n c =
-        record {
-          few = omega (arith, c, most_tokens m.expression δ);
-          codes = omega (arith, c, room.codes_hold, kept (λ k. k.code) cs₀ cs so.codes_are);
-          starts = omega (arith, c, room.starts_hold, kept (λ k. k.start) ss₀ ss so.starts_are);
-          lens = omega (arith, c, room.lens_hold, kept (λ k. k.len) ls₀ ls so.lens_are);
-          values = omega (arith, c, room.values_hold, kept (λ k. k.value) vs₀ vs so.values_are);
-        }
-
     -- if reading met no refusal, the answer to the arrays is the answer to the expression
-    pub answers : (n : ℕ) (end : Offset) → n ≡ length read.tokens → read.ending ≡ Complete end
+    pub answers : (n : ℕ) (end : Offset) → n ≡ length read.tokens → read.ending ≡ Ok end
         → of_arrays m (token_at cs ss ls vs n) n end.0 δ ≡ evaluation_in m δ
     unfolding evaluation_in of_tokens
     answers n end c y =
         let read_all = tokens_read read cs₀ ss₀ ls₀ vs₀ cs ss ls vs so room.codes_hold room.starts_hold room.lens_hold room.values_hold in
         let tokens : token_at cs ss ls vs n ≡ token_in read.tokens = rw c read_all in
         ap (λ (tok : ℕ → Token). of_arrays m tok n end.0 δ) tokens ∙ rw (c, y, from_list [] read.tokens)
-
--- as many entries as bytes, or 200, are room enough
-pub room_of : (e : List ℕ) (δ : Dialect) {cs ss ls vs : List ℕ} (most : ℕ) → length (reading e δ).tokens ≤ most
-    → most ≤ length cs → most ≤ length ss → most ≤ length ls → most ≤ length vs → Room (reading e δ) cs ss ls vs
-room_of e δ most h c s l v = record { codes_hold = omega arith; starts_hold = omega arith; lens_hold = omega arith; values_hold = omega arith }

@@ -1,21 +1,21 @@
 -- A value that is answered is that of a tree which the tokens derive, and fewer operators were applied than there are tokens. Assumes
 -- nothing.
+use Rattle.std.specs.Prelude.{Err, None, Ok, Option, Result, Some}
 use Prim.Native.Nat.{ℕ, ◌<◌}
 use native.Mathlib.Omega.{arith}
 use mathlib.Core.Path.{◌≡◌, refl, ap}
 use mathlib.Core.Bool.{Bool, true, false}
 use mathlib.Core.List.{List}
 use lib.ListN.{length}
-use Rattle.units.specs.Refusals.{BAR_OUTSIDE, PCD_MISSING, KINDS_UNSUITED, refusal_at}
+use Rattle.units.specs.Refusals.{refusal_at}
+use Rattle.units.specs.declared.Offset.{Offset}
+use Rattle.units.specs.declared.Reason.{Reason}
+use Rattle.units.specs.declared.Reason.TheVariants.{TableMalformed, BarOutside, PcdMissing, KindsUnsuited}
 use Rattle.units.specs.declared.Refusal.{Refusal}
 use Rattle.units.specs.declared.Dialect.{Dialect}
-use Rattle.units.specs.declared.Where.{Where}
-use Rattle.units.specs.declared.Where.TheVariants.{Nowhere, At}
 use Rattle.text.specs.Bytes.{pick}
 use Rattle.settings.specs.Table.{well_formed}
 use Rattle.token.specs.Tokens.{Token, reading}
-use Rattle.token.specs.declared.scan.Ending.{Ending}
-use Rattle.token.specs.declared.scan.Ending.TheVariants.{Complete, Refused}
 use Rattle.grammar.specs.Grammar.{Tree, expression, Derives}
 use Rattle.grammar.specs.Fold.{fold}
 use Rattle.grammar.specs.Parse.{Outcome, refused as underived, accepted, parse, Reads}
@@ -28,7 +28,7 @@ use Rattle.value.specs.Attributes.{Attributes}
 use Rattle.value.specs.declared.Kind.{Kind}
 use Rattle.value.specs.declared.Kind.TheVariants.{Number, String, Wide, Clash}
 use Rattle.expression.specs.Meaning.{code_of, meaning}
-use Rattle.expression.proofs.Ready.{counts}
+use Rattle.expression.proofs.Counts.{counts}
 use Rattle.leftmost.specs.Leftmost.{bar_at, pcd_at}
 use Rattle.evaluation.specs.Evaluation.{Evaluation, value, refused, refused_with, answer_value, clash_in, refused_or, check_then_answer, END_TOKEN}
 use Rattle.evaluation.specs.Evaluation.{token_in, start_in, answer_tokens, of_tokens, ended, evaluation_in, evaluation}
@@ -50,21 +50,21 @@ module _ (v : Value) (n : ℕ) where
   answer_value_given : (a : Attributes) → clashes a.kind ≡ false → (w : Value) → a.value ≡ w → IfValue a (answer_value w a.count)
   answer_value_given a h (number x) g e = let w : v ≡ number x = cc in record { suited = h; count = cc; value = cc; given = rw w }
   answer_value_given a h (text k p s) g e = let w : v ≡ text k p s = cc in record { suited = h; count = cc; value = cc; given = rw w }
-  answer_value_given a h (fault f) g e = absurd (never (refusal_at f.number f.at.0) e)
+  answer_value_given a h (fault f) g e = absurd (never (refusal_at f.reason f.at.0) e)
 
   -- a refusal at a place is no value
-  past : (a : Attributes) (w : Where) (r : ℕ) (x : Evaluation) → IfValue a x → IfValue a (refused_or w r x)
-  past a Nowhere r x h = h
-  past a (At o) r x h = λ e. absurd (never (refusal_at r o.0) e)
+  past : (a : Attributes) (w : Option Offset) (r : Reason) (x : Evaluation) → IfValue a x → IfValue a (refused_or w r x)
+  past a None r x h = h
+  past a (Some o) r x h = λ e. absurd (never (refusal_at r o.0) e)
 
-  by_kind : (a : Attributes) (k : Kind) → a.kind ≡ k → IfValue a (refused_or (clash_in k) KINDS_UNSUITED (answer_value a.value a.count))
+  by_kind : (a : Attributes) (k : Kind) → a.kind ≡ k → IfValue a (refused_or (clash_in k) KindsUnsuited (answer_value a.value a.count))
   by_kind a Number h = answer_value_given a (ap clashes h) a.value refl
   by_kind a String h = answer_value_given a (ap clashes h) a.value refl
   by_kind a Wide h = answer_value_given a (ap clashes h) a.value refl
-  by_kind a (Clash p) h = λ e. absurd (never (refusal_at KINDS_UNSUITED p) e)
+  by_kind a (Clash p) h = λ e. absurd (never (refusal_at KindsUnsuited p) e)
 
-  pub check_then_answer_given : (bar pcd : Where) (a : Attributes) → IfValue a (check_then_answer bar pcd a)
-  check_then_answer_given bar pcd a = past a bar BAR_OUTSIDE _ (past a pcd PCD_MISSING _ (by_kind a a.kind refl))
+  pub check_then_answer_given : (bar pcd : Option Offset) (a : Attributes) → IfValue a (check_then_answer bar pcd a)
+  check_then_answer_given bar pcd a = past a bar BarOutside _ (past a pcd PcdMissing _ (by_kind a a.kind refl))
 
 module _ (m : Memory) (δ : Dialect) where
   abbrev read : List Token
@@ -91,9 +91,9 @@ module _ (m : Memory) (δ : Dialect) where
   unfolding evaluation_in of_tokens
   from_tree v n = by (reading m.expression δ).ending
     where
-      by : (y : Ending) → ended y (λ end. of_tokens m read end δ) ≡ value v n → FromTree v n
-      by (Refused r) h = absurd (never v n _ h)
-      by (Complete end) h = by_outcome end.0 (parse code_of (meaning m) (token_in read) (length read)) refl v n h
+      by : (y : Result Offset Refusal) → ended y (λ end. of_tokens m read end δ) ≡ value v n → FromTree v n
+      by (Err r) h = absurd (never v n _ h)
+      by (Ok end) h = by_outcome end.0 (parse code_of (meaning m) (token_in read) (length read)) refl v n h
 
   -- fewer operators were applied than the expression has tokens
   pub counted : (v : Value) (n : ℕ) → evaluation_in m δ ≡ value v n → n < length read
@@ -106,7 +106,7 @@ module _ (m : Memory) (δ : Dialect) where
   unfolding evaluation
   over_well_formed v n = by (well_formed m.table) refl
     where
-      by : (b : Bool) → well_formed m.table ≡ b → pick b (evaluation_in m δ) (refused_with 1) ≡ value v n
+      by : (b : Bool) → well_formed m.table ≡ b → pick b (evaluation_in m δ) (refused_with TableMalformed) ≡ value v n
           → (well_formed m.table ≡ true) × (evaluation_in m δ ≡ value v n)
       by false e h = absurd (never v n _ h)
       by true e h = (e, h)

@@ -1,4 +1,5 @@
 -- The offset of a refusal is within the expression: it is a token's place, or the place where reading ended. Assumes nothing.
+use Rattle.std.specs.Prelude.{Err, None, Ok, Option, Result, Some}
 use Prim.Native.Nat.{ℕ, zero, suc, ◌≤◌}
 use native.Mathlib.Omega.{arith}
 use mathlib.Core.Path.{◌≡◌, refl}
@@ -7,13 +8,12 @@ use mathlib.Core.List.{List, [], ◌∷◌, ◌++◌, Memᴰ}
 use lib.ListN.{length}
 use lib.Dec.{eqb, ltb}
 use Rattle.units.specs.declared.Dialect.{Dialect}
+use Rattle.units.specs.declared.Offset.{Offset}
+use Rattle.units.specs.declared.Reason.{Reason}
+use Rattle.units.specs.declared.Reason.TheVariants.{BarOutside, PcdMissing, KindsUnsuited}
 use Rattle.units.specs.declared.Refusal.{Refusal}
-use Rattle.units.specs.declared.Where.{Where}
-use Rattle.units.specs.declared.Where.TheVariants.{Nowhere, At}
 use Rattle.text.proofs.Laws.{pick_case}
 use Rattle.token.specs.Tokens.{Token, first_place, reading}
-use Rattle.token.specs.declared.scan.Ending.{Ending}
-use Rattle.token.specs.declared.scan.Ending.TheVariants.{Complete, Refused}
 use Rattle.token.proofs.Within.{Within, tokens_in}
 use Rattle.token.proofs.Endings.{every_ending}
 use Rattle.grammar.specs.Bars.{is_bar, deeper, bars_outside}
@@ -36,13 +36,13 @@ abbrev AllIn : ℕ → List Token → Type 0
 AllIn n ts = (k : Token) → Memᴰ k ts → Within n k
 
 -- a place, and an ending, at one of n bytes or after them
-abbrev PlaceIn : ℕ → Where → Type 0
-PlaceIn n Nowhere = Unit
-PlaceIn n (At o) = o.0 ≤ n
+abbrev PlaceIn : ℕ → Option Offset → Type 0
+PlaceIn n None = Unit
+PlaceIn n (Some o) = o.0 ≤ n
 
-abbrev EndsIn : ℕ → Ending → Type 0
-EndsIn n (Complete end) = end.0 ≤ n
-EndsIn n (Refused r) = r.offset.0 ≤ n
+abbrev EndsIn : ℕ → Result Offset Refusal → Type 0
+EndsIn n (Ok end) = end.0 ≤ n
+EndsIn n (Err r) = r.offset.0 ≤ n
 
 ends_in : (e : List ℕ) (δ : Dialect) → EndsIn (length e) (reading e δ).ending
 ends_in e δ =
@@ -86,13 +86,13 @@ module _ (n : ℕ) where
   clash_in_lem Wide h = tt
   clash_in_lem (Clash p) h = h
 
-  or_in : (w : Where) (r : ℕ) (x : Evaluation) → PlaceIn n w → OffsetIn x → OffsetIn (refused_or w r x)
-  or_in Nowhere r x p h = h
-  or_in (At o) r x p h = p
+  or_in : (w : Option Offset) (r : Reason) (x : Evaluation) → PlaceIn n w → OffsetIn x → OffsetIn (refused_or w r x)
+  or_in None r x p h = h
+  or_in (Some o) r x p h = p
 
-  check_then_answer_in : (bar pcd : Where) (a : Attributes) → PlaceIn n bar → PlaceIn n pcd → PlacesIn n a → OffsetIn (check_then_answer bar pcd a)
+  check_then_answer_in : (bar pcd : Option Offset) (a : Attributes) → PlaceIn n bar → PlaceIn n pcd → PlacesIn n a → OffsetIn (check_then_answer bar pcd a)
   check_then_answer_in bar pcd a p q h =
-      or_in bar 8 _ p (or_in pcd 9 _ q (or_in (clash_in a.kind) 10 _ (clash_in_lem a.kind h.0) (value_in a.value a.count h.1)))
+      or_in bar BarOutside _ p (or_in pcd PcdMissing _ q (or_in (clash_in a.kind) KindsUnsuited _ (clash_in_lem a.kind h.0) (value_in a.value a.count h.1)))
 
 module _ (m : Memory) (δ : Dialect) where
   abbrev n : ℕ
@@ -128,9 +128,9 @@ module _ (m : Memory) (δ : Dialect) where
   unfolding evaluation_in of_tokens
   answer_within = by (reading m.expression δ).ending (ends_in m.expression δ)
     where
-      by : (x : Ending) → EndsIn n x → OffsetIn n (ended x (λ end. of_tokens m read end δ))
-      by (Refused r) h = h
-      by (Complete end) h = tokens_within end.0 h (parse code_of (meaning m) (token_in read) (length read)) refl
+      by : (x : Result Offset Refusal) → EndsIn n x → OffsetIn n (ended x (λ end. of_tokens m read end δ))
+      by (Err r) h = h
+      by (Ok end) h = tokens_within end.0 h (parse code_of (meaning m) (token_in read) (length read)) refl
 
 pub offset_within : (m : Memory) (δ : Dialect) (r : Refusal) → evaluation_in m δ ≡ refused r → r.offset.0 ≤ length m.expression
 offset_within m δ r e = rw e at (answer_within m δ)

@@ -3,20 +3,11 @@
 
 pub mod outcome;
 
-use lookup::Place;
-use units::Refusal;
+use lookup::Value;
 
-// A value by its kind. A string is a part of the expression or of the table.
+// A value with the count of operators. A string is a part of the expression or of the table.
 #[derive(Clone, Copy)]
-pub enum AnswerValue {
-    Number(u64),
-    String(Place),
-    Wide(Place),
-}
-
-// A value with the count of operators, or the refusal.
-#[derive(Clone, Copy)]
-pub enum Answer {
-    Value(AnswerValue, usize),
-    Refused(Refusal),
+pub struct Evaluated {
+    pub value: Value,
+    pub count: usize,
 }

@@ -1,24 +1,24 @@
 -- One more entry of an order: the operands that it finds on the stack, and what the entries after it leave.
-use Prim.Native.Nat.{ℕ, zero, suc, ◌+◌, ◌-◌, ◌≤◌, ◌<◌}
+use Prim.Native.Nat.{ℕ, ◌+◌, ◌-◌, ◌≤◌, ◌<◌}
 use native.Mathlib.Numerals.{add-one}
 use native.Mathlib.Omega.{arith}
-use mathlib.Core.Path.{◌≡◌, refl, sym, ap, subst}
+use mathlib.Core.Path.{◌≡◌, sym, ap, subst}
 use mathlib.Core.Bool.{true, false}
 use mathlib.Core.List.{List, [], ◌∷◌}
-use lib.ListN.{length, take, drop, get_or}
-use lib.Seq.{drop-cons, get_or-take, length-take-le}
+use lib.ListN.{length, drop, get_or, drop_of_length-le}
+use lib.Seq.{drop-cons}
 use borrow.Author.Tests.{le-leb, lt-leb, eq-eqb, ne_eqb}
 use Rattle.codes.specs.Codes.{QUESTION}
-use Rattle.grammar.specs.Grammar.{is_primary}
 use Rattle.token.specs.Tokens.{Token}
+use Rattle.grammar.specs.Grammar.{is_primary}
+use Rattle.syntax.specs.Order.{UNARY, FILLER}
 use Rattle.value.specs.Places.{Memory}
+use Rattle.value.specs.declared.Attributes.{Attributes as CodedAttributes}
 use Rattle.value.specs.Attributes.{Attributes, primary_of, unary_from, binary_from, choice_from}
 use Rattle.value.specs.Denote.{InOneRecord}
 use Rattle.value.proofs.OneRecord.{denotes_recorded}
-use Rattle.operands.specs.Numbers.{operand_in}
-use Rattle.operands.specs.Stack.{operand_at, count_at, RecordedAt, piled, Leaves}
+use Rattle.operands.specs.Stack.{NOTHING, operand_at, count_at, RecordedAt, piled, Leaves}
 use Rattle.operands.proofs.Piles.{pile_length, latest}
-use Rattle.syntax.specs.Order.{UNARY, FILLER}
 use Rattle.expression.specs.Postfix.{Input, memory_of, code_in, token_in, Entry, operand, unary, binary, choice, filler, entry_of, OnOne, OnTwo, OnThree}
 use Rattle.expression.specs.Postfix.{Does, Gives}
 
@@ -39,14 +39,8 @@ module _ (i : Input) (x : ℕ) where
   pub is_binary : x < UNARY → is_primary (code_in i x) ≡ false → (x ≡ FILLER → ⊥) → (code_in i x ≡ QUESTION → ⊥) → entry_of i x ≡ binary
   is_binary h e f g = rw (lt-leb UNARY x h, e, ne_eqb x FILLER f, ne_eqb (code_in i x) QUESTION g)
 
--- after the last entry
-drop_taken : (m : ℕ) (o : List ℕ) → drop m (take m o) ≡ []
-drop_taken zero o = refl
-drop_taken (suc m) [] = refl
-drop_taken (suc m) (x ∷ o) = drop_taken m o
-
 -- the operands of an operator on top of the stack w
-module _ (m : Memory) (w : List (List ℕ)) (top : ℕ) (go : List Attributes → Type 0) where
+module _ (m : Memory) (w : List CodedAttributes) (top : ℕ) (go : List Attributes → Type 0) where
   one : {o : Token} (g : OnOne o (piled m w top) go) → (0 < top) × (g.a ≡ operand_at m w (top - 1)) × (g.rest ≡ piled m w (top - 1))
   one g = latest m w top g.a g.rest g.shape
 
@@ -72,81 +66,74 @@ module _ (m : Memory) (w : List (List ℕ)) (top : ℕ) (go : List Attributes �
       (omega (arith, first.0), rw p at first.1, rw q at middle.1, rw r at last.1, rw p at first.2)
 
 -- the stack that an operator leaves
-placed : {m : Memory} {w w' : List (List ℕ)} {a : Attributes} {j : ℕ} (h : ℕ) → j + 1 ≡ h → Leaves m w j a w' → piled m w' h ≡ a ∷ piled m w j
+placed : {m : Memory} {w w' : List CodedAttributes} {a : Attributes} {j : ℕ} (h : ℕ) → j + 1 ≡ h → Leaves m w j a w' → piled m w' h ≡ a ∷ piled m w j
 placed h f l = rw f at l.top
 
--- the evaluation of an order: its input, the room for operands, and the number of its entries
+-- the evaluation of an order: its input, the room for operands, and its entries
 pub record Work : Type 0 where
   pub i : Input
   pub most : ℕ
   pub order : List ℕ
-  pub filled : ℕ
-
-abbrev pub entries : Work → List ℕ
-entries k = take k.filled k.order
 
 -- the first operands of a stack
-abbrev pub pile : Work → List (List ℕ) → ℕ → List Attributes
+abbrev pub pile : Work → List CodedAttributes → ℕ → List Attributes
 pile k w top = piled (memory_of k.i) w top
 
-abbrev pub at : Work → List (List ℕ) → ℕ → Attributes
+abbrev pub at : Work → List CodedAttributes → ℕ → Attributes
 at k w j = operand_at (memory_of k.i) w j
 
 -- with `top` operands on the stack w, the entries from p on leave what all entries leave
-pub record Rest (k : Work) (w : List (List ℕ)) (top p : ℕ) : Type 0 where
-  pub leaves : (v : Attributes) → Gives k.i k.most [] (entries k) v → Gives k.i k.most (pile k w top) (drop p (entries k)) v
+pub record Rest (k : Work) (w : List CodedAttributes) (top p : ℕ) : Type 0 where
+  pub leaves : (v : Attributes) → Gives k.i k.most [] k.order v → Gives k.i k.most (pile k w top) (drop p k.order) v
 
 -- before the first entry the stack is empty
-pub begun : (k : Work) (w : List (List ℕ)) → Rest k w 0 0
+pub begun : (k : Work) (w : List CodedAttributes) → Rest k w 0 0
 unfolding piled
 begun k w = record { leaves = λ v g. g }
 
 -- the same, if entry p is x and of this sort
-pub record Next (k : Work) (y : Entry) (x : ℕ) (w : List (List ℕ)) (top p : ℕ) : Type 0 where
-  pub does : (v : Attributes) → Gives k.i k.most [] (entries k) v
-      → Does k.i k.most y x (pile k w top) (λ u. Gives k.i k.most u (drop (p + 1) (entries k)) v)
+pub record Next (k : Work) (y : Entry) (x : ℕ) (w : List CodedAttributes) (top p : ℕ) : Type 0 where
+  pub does : (v : Attributes) → Gives k.i k.most [] k.order v
+      → Does k.i k.most y x (pile k w top) (λ u. Gives k.i k.most u (drop (p + 1) k.order) v)
 
 -- w' holds the operands of w up to j, and then a
-abbrev pub Left : Work → List (List ℕ) → ℕ → Attributes → List (List ℕ) → Type 0
+abbrev pub Left : Work → List CodedAttributes → ℕ → Attributes → List CodedAttributes → Type 0
 Left k w j a w' = Leaves (memory_of k.i) w j a w'
 
-module _ {k : Work} {w : List (List ℕ)} {top p : ℕ} where
+module _ {k : Work} {w : List CodedAttributes} {top p : ℕ} where
   -- the next entry
-  pub opened : (y : Entry) (x : ℕ) → p < k.filled → k.filled ≤ length k.order → x ≡ get_or k.order p 0 → entry_of k.i x ≡ y → Rest k w top p
-      → Next k y x w top p
-  opened y x h l q f r =
-      let n : p < length (entries k) = rw (length-take-le k.filled k.order l) h in
-      record { does = λ v g. rw (add-one p) (rw (drop-cons (entries k) p 0 n, get_or-take k.filled k.order p 0 h, ← q, f) at (r.leaves v g)) }
+  pub opened : (y : Entry) (x : ℕ) → p < length k.order → x ≡ get_or k.order p 0 → entry_of k.i x ≡ y → Rest k w top p → Next k y x w top p
+  opened y x h q f r = record { does = λ v g. rw (add-one p) (rw (drop-cons k.order p 0 h, ← q, f) at (r.leaves v g)) }
 
   -- after the last entry
-  pub closed : p ≡ k.filled → Rest k w top p → (v : Attributes) → Gives k.i k.most [] (entries k) v → pile k w top ≡ v ∷ []
-  closed q r v g = rw (q, drop_taken k.filled k.order) at (r.leaves v g)
+  pub closed : length k.order ≤ p → Rest k w top p → (v : Attributes) → Gives k.i k.most [] k.order v → pile k w top ≡ v ∷ []
+  closed q r v g = rw (drop_of_length-le k.order q) at (r.leaves v g)
 
   -- the operands that an entry finds, if all entries leave something
   module _ {x : ℕ} where
-    pub operand_room : Next k operand x w top p → (v : Attributes) → Gives k.i k.most [] (entries k) v → top < k.most
+    pub operand_room : Next k operand x w top p → (v : Attributes) → Gives k.i k.most [] k.order v → top < k.most
     operand_room r v g = omega (arith, (r.does v g).0, pile_length (memory_of k.i) w top)
 
-    pub unary_finds : Next k unary x w top p → (v : Attributes) → Gives k.i k.most [] (entries k) v → (0 < top) × (count_at w (top - 1) ≤ 200)
+    pub unary_finds : Next k unary x w top p → (v : Attributes) → Gives k.i k.most [] k.order v → (0 < top) × (count_at w (top - 1) ≤ 200)
     unary_finds r v g =
         let h = r.does v g in
         let f = one (memory_of k.i) w top _ h in
         (f.0, omega (arith, h.few, ap (λ a. a.count) f.1))
 
-    pub binary_finds : Next k binary x w top p → (v : Attributes) → Gives k.i k.most [] (entries k) v
+    pub binary_finds : Next k binary x w top p → (v : Attributes) → Gives k.i k.most [] k.order v
         → (1 < top) × (count_at w (top - 2) + count_at w (top - 2 + 1) ≤ 400) × RecordedAt w (top - 2) × RecordedAt w (top - 2 + 1)
     binary_finds r v g =
         let h = r.does v g in
         let f = two (memory_of k.i) w top _ h in
         let held : (j : ℕ) (a : Attributes) → a ≡ at k w j → InOneRecord a.value → RecordedAt w j =
-        λ j a e q. denotes_recorded (memory_of k.i) (operand_in (get_or w j [])).value (subst (λ (b : Attributes). InOneRecord b.value) e q) in (
+        λ j a e q. denotes_recorded (memory_of k.i) (get_or w j NOTHING).value (subst (λ (b : Attributes). InOneRecord b.value) e q) in (
           f.0,
           omega (arith, h.few, ap (λ a. a.count) f.1, ap (λ a. a.count) f.2),
           held (top - 2) h.a f.1 h.recorded.0,
           held (top - 2 + 1) h.b f.2 h.recorded.1,
         )
 
-    pub choice_finds : Next k choice x w top p → (v : Attributes) → Gives k.i k.most [] (entries k) v
+    pub choice_finds : Next k choice x w top p → (v : Attributes) → Gives k.i k.most [] k.order v
         → (2 < top) × (count_at w (top - 3) + count_at w (top - 3 + 1) + count_at w (top - 3 + 2) ≤ 600)
     choice_finds r v g =
         let h = r.does v g in
@@ -157,7 +144,7 @@ module _ {k : Work} {w : List (List ℕ)} {top p : ℕ} where
   pub filler_on : {x : ℕ} → Next k filler x w top p → Rest k w top (p + 1)
   filler_on r = record { leaves = r.does }
 
-  module _ {x : ℕ} (w' : List (List ℕ)) where
+  module _ {x : ℕ} (w' : List CodedAttributes) where
     pub operand_on : Next k operand x w top p → Left k w top (primary_of (memory_of k.i) (token_in k.i x)) w' → Rest k w' (top + 1) (p + 1)
     operand_on r l = record { leaves = λ v g. rw l.top (r.does v g).1 }
 

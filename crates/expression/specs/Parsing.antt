@@ -1,7 +1,7 @@
 -- The expression that the tokens in the scanner's arrays derive. Contracts between layers cite this; no promise about an expression does.
-use Rattle.std.specs.Prelude.{ℕ, ◌≤◌, List, length, get_or, ltb}
+use Rattle.std.specs.Prelude.{ℕ, ◌≤◌, List, length, get_or, ltb, Result as Returned, Ok, Err}
+use Rattle.units.specs.declared.TokenNumber.{TokenNumber}
 use Rattle.text.specs.Bytes.{pick}
-use Rattle.lookup.specs.Setting.{Looked}
 use Rattle.token.specs.Tokens.{Token}
 use Rattle.grammar.specs.Grammar.{expression}
 use Rattle.grammar.specs.Parse.{Result, bad, got, find, Yields}
@@ -9,9 +9,8 @@ use Rattle.syntax.specs.Order.{code_at}
 use Rattle.value.specs.Places.{Memory}
 use Rattle.value.specs.Attributes.{Attributes}
 use Rattle.value.specs.Denote.{denote_attributes}
+use Rattle.value.specs.declared.Attributes.{Attributes as CodedAttributes}
 use Rattle.expression.specs.Meaning.{code_of, meaning}
-use Rattle.expression.specs.declared.Parsed.{Parsed}
-use Rattle.expression.specs.declared.Parsed.TheVariants.{Bad, Got}
 
 -- an entry of token i, of n tokens; 0 past them
 abbrev pub entry_at : List ℕ → ℕ → ℕ → ℕ
@@ -21,12 +20,12 @@ entry_at xs n i = pick (ltb i n) (get_or xs i 0) 0
 abbrev pub token_at : (cs ss ls vs : List ℕ) → ℕ → ℕ → Token
 token_at cs ss ls vs n i = record { code = code_at cs n i; start = entry_at ss n i; len = entry_at ls n i; value = entry_at vs n i }
 
-abbrev pub found : Memory → Parsed → Result Attributes
-found m (Bad i) = bad i.0
-found m (Got a j) = got (denote_attributes m a) j.0
+abbrev pub found : Memory → Returned (CodedAttributes × TokenNumber) TokenNumber → Result Attributes
+found m (Err i) = bad i.0
+found m (Ok p) = got (denote_attributes m p.0) p.1.0
 
 -- the answer is what the grammar's parser finds from the first token on
-abbrev pub Parses : (m : Memory) (cs ss ls vs : List ℕ) (n : ℕ) → Parsed → Type 0
+abbrev pub Parses : (m : Memory) (cs ss ls vs : List ℕ) (n : ℕ) → Returned (CodedAttributes × TokenNumber) TokenNumber → Type 0
 Parses m cs ss ls vs n r = Yields code_of (meaning m) (token_at cs ss ls vs n) n (find expression 0) (found m r)
 
 -- the arrays have n tokens, at most 200
@@ -36,8 +35,3 @@ pub record Holding (cs ss ls vs : List ℕ) (n : ℕ) : Type 0 where
   pub starts : n ≤ length ss
   pub lens : n ≤ length ls
   pub values : n ≤ length vs
-
--- the precondition: whole records stand in front of an ordered table, and the arrays have n tokens
-pub record Ready (own t cs ss ls vs : List ℕ) (n : ℕ) : Type 0 where
-  pub looked : Looked own t
-  pub holding : Holding cs ss ls vs n

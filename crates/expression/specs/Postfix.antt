@@ -1,15 +1,15 @@
 -- The evaluation of a postfix order, entry by entry, with a stack of the operands that wait for their operator. No promise cites this.
-use Rattle.std.specs.Prelude.{ℕ, ◌+◌, ◌-◌, ◌≤◌, ◌<◌, ◌≡◌, List, [], ◌∷◌, length, take, eqb, leb}
+use Rattle.std.specs.Prelude.{ℕ, ◌+◌, ◌-◌, ◌≤◌, ◌<◌, ◌≡◌, List, [], ◌∷◌, length, eqb, leb}
 use Rattle.text.specs.Bytes.{pick}
 use Rattle.codes.specs.Codes.{QUESTION}
-use Rattle.grammar.specs.Grammar.{is_primary}
 use Rattle.token.specs.Tokens.{Token}
+use Rattle.grammar.specs.Grammar.{is_primary}
+use Rattle.syntax.specs.Order.{code_at, UNARY, FILLER}
 use Rattle.value.specs.Places.{Memory, over_all}
 use Rattle.value.specs.Attributes.{Attributes, primary_of, unary_from, binary_from, choice_from}
 use Rattle.value.specs.declared.Attributes.{Attributes as CodedAttributes}
 use Rattle.value.specs.Denote.{InOneRecord, denote_attributes}
-use Rattle.syntax.specs.Order.{code_at, UNARY, FILLER}
-use Rattle.expression.specs.Parsing.{token_at, Ready}
+use Rattle.expression.specs.Parsing.{token_at}
 
 -- what an order is evaluated over: an expression, a table with records in front of it, and the first n tokens of the arrays
 pub record Input : Type 0 where
@@ -87,14 +87,12 @@ module _ (i : Input) (most : ℕ) where
   Gives s [] v = s ≡ v ∷ []
   Gives s (x ∷ k) v = Does (entry_of i x) x s (λ u. Gives u k v)
 
-  -- the precondition on the first m entries of an order
-  pub record Foldable (o : List ℕ) (m : ℕ) : Type 0 where
-    pub ready : Ready i.own i.table i.codes i.starts i.lens i.values i.n
-    pub all : m ≤ 200
-    pub long : length o ≡ 200
+  -- the precondition on the entries of an order
+  pub record Foldable (o : List ℕ) : Type 0 where
+    pub few : length o ≤ 200
     pub value : Attributes
-    pub gives : Gives [] (take m o) value
+    pub gives : Gives [] o value
 
   -- the answer is what they leave
-  abbrev pub Folds : (o : List ℕ) (m : ℕ) → CodedAttributes → Type 0
-  Folds o m z = (v : Attributes) → Gives [] (take m o) v → denote_attributes (memory_of i) z ≡ v
+  abbrev pub Folds : (o : List ℕ) → CodedAttributes → Type 0
+  Folds o z = (v : Attributes) → Gives [] o v → denote_attributes (memory_of i) z ≡ v

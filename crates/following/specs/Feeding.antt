@@ -3,7 +3,8 @@
 use Rattle.std.specs.Prelude.{ℕ, ◌+◌, ◌-◌, Bool, false, ◌||◌, List, [], ◌∷◌, length, take, eqb, ltb, leb}
 use Rattle.units.specs.declared.Dialect.{Dialect}
 use Rattle.units.specs.declared.Fault.{Fault}
-use Rattle.units.specs.Refusals.{TABLE_MALFORMED, FILE_LONG, LINES_MANY, PIECE_MALFORMED, unplaced}
+use Rattle.units.specs.Refusals.{unplaced}
+use Rattle.units.specs.declared.Reason.TheVariants.{FileLong, LinesMany, PieceMalformed, TableMalformed}
 use Rattle.text.specs.Bytes.{byte, pick}
 use Rattle.settings.specs.Table.{well_formed}
 use Rattle.line.specs.Lines.{lines}
@@ -62,13 +63,13 @@ onward (stop x) piece p = unfed x (p.lines + 1)
 unfoldable pub feeding : (t : List ℕ) → Progress → (piece : List ℕ) → Dialect → Fed
 feeding t p piece δ =
     pick (well_formed t)
-    (pick (malformed piece || p.ended) (unfed (unplaced PIECE_MALFORMED) 0)
-    (pick (ltb MAX_FILE (p.bytes + length piece)) (unfed (unplaced FILE_LONG) (p.lines + 1))
-    (pick (leb MAX_LINES p.lines) (unfed (unplaced LINES_MANY) (p.lines + 1))
+    (pick (malformed piece || p.ended) (unfed (unplaced PieceMalformed) 0)
+    (pick (ltb MAX_FILE (p.bytes + length piece)) (unfed (unplaced FileLong) (p.lines + 1))
+    (pick (leb MAX_LINES p.lines) (unfed (unplaced LinesMany) (p.lines + 1))
     (onward (step t (p.lines + 1) p.state (line_of piece) δ) piece p))))
-    (unfed (unplaced TABLE_MALFORMED) 0)
+    (unfed (unplaced TableMalformed) 0)
 
 -- The file ends here, with a table t: accepted with the count so far, its marks being those of the lines that were fed; or refused with 1, or
 -- with 21 at the innermost open `!if`.
 unfoldable pub ending : (t : List ℕ) → Progress → Result
-ending t p = pick (well_formed t) (at_end p.state.groups p.state.count) (refused (unplaced TABLE_MALFORMED) 0)
+ending t p = pick (well_formed t) (at_end p.state.groups p.state.count) (refused (unplaced TableMalformed) 0)

@@ -1,14 +1,14 @@
 -- A selection represents the open groups: the innermost one, and the selection after a push, a change or a pop. Assumes nothing.
-use Prim.Native.Nat.{ℕ, zero, suc, ◌+◌, ◌-◌, ◌*◌, ◌/◌, ◌%◌, ◌≤◌, ◌<◌}
+use Prim.Native.Nat.{ℕ, zero, suc, ◌+◌, ◌*◌, ◌/◌, ◌%◌, ◌≤◌, ◌<◌}
 use native.Mathlib.Omega.{arith}
 use native.Mathlib.Nat.{mul_assoc, mod-lt, mod-eq_of_lt, div-add-mod, mul-add-mod_self_left}
 use native.Mathlib.Numerals.{add-one}
 use mathlib.Core.Path.{◌≡◌, refl, sym, ap, ◌∙◌}
-use mathlib.Core.List.{List, [], ◌∷◌}
+use mathlib.Core.List.{List, ◌∷◌}
 use lib.ListN.{length, get_or, set}
 use lib.Seq.{get_or-set_same, get_or-set_other}
 use Rattle.own.specs.Own.{Own}
-use Rattle.groups.specs.Groups.{group, innermost, state, replace, pop}
+use Rattle.groups.specs.Groups.{group, innermost, state, replace}
 use Rattle.groups.specs.Stack.{digit, flags_in, groups_in, groups_of, Represents}
 use Rattle.groups.specs.declared.Flags.{Flags}
 use Rattle.groups.specs.declared.Selection.{Selection}
@@ -19,9 +19,6 @@ as_many zero w ls = refl
 as_many (suc d) w ls = ap suc (as_many d (w / 16) ls)
 
 -- what the rules know of the groups
-pub none_open : (d w : ℕ) (ls : List ℕ) → d ≡ 0 → groups_in d w ls ≡ []
-none_open d w ls e = rw e
-
 pub some_open : (d w : ℕ) (ls : List ℕ) → (d ≡ 0 → ⊥) → innermost (groups_in d w ls) ≡ record { depth = d; flags = flags_in w }
 some_open zero w ls h = absurd (h refl)
 some_open (suc d) w ls h = rw (as_many d (w / 16) ls)
@@ -79,9 +76,6 @@ module _ (x : Selection) (k : ℕ) (o : List Own) where
   abbrev changed : (depth states : ℕ) → Selection
   changed d w = record { depth = d; count = x.count + k; states = w; lines = x.lines }
 
-  pub stayed : x.depth ≤ 16 → Represents (changed x.depth x.states) (state (groups_of x) (x.count + k) o)
-  stayed h = record { shallow = h; means = refl }
-
   pub pushed : (f : Flags) (n : ℕ) → x.depth < 16 → length x.lines ≡ 16
       → Represents (record {
         depth = x.depth + 1;
@@ -106,10 +100,3 @@ module _ (x : Selection) (k : ℕ) (o : List Own) where
       by : (d : ℕ) → groups_in d (x.states / 16 * 16 + digit f) x.lines ≡ replace f (groups_in d x.states x.lines)
       by zero = refl
       by (suc d) = with_digit (x.states / 16) f d x.lines
-
-  pub popped : x.depth ≤ 16 → Represents (changed (x.depth - 1) (x.states / 16)) (state (pop (groups_of x)) (x.count + k) o)
-  popped h = record { shallow = omega arith; means = ap (λ gs. state gs (x.count + k) o) (by x.depth) }
-    where
-      by : (d : ℕ) → groups_in (d - 1) (x.states / 16) x.lines ≡ pop (groups_in d x.states x.lines)
-      by zero = refl
-      by (suc d) = let e : suc d - 1 ≡ d = omega arith in rw e

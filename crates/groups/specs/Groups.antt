@@ -1,12 +1,12 @@
 -- The open groups of a run, the innermost first, and a transition applied to them.
-use Rattle.std.specs.Prelude.{ℕ, ◌+◌, true, List, [], ◌∷◌, length}
+use Rattle.std.specs.Prelude.{ℕ, ◌+◌, true, List, [], ◌∷◌, length, Result, Ok, Err}
 use Rattle.units.specs.declared.Fault.{Fault}
 use Rattle.own.specs.Own.{Own}
 use Rattle.groups.specs.Rules.{first_branch}
 use Rattle.groups.specs.declared.Flags.{Flags}
 use Rattle.groups.specs.declared.Innermost.{Innermost}
 use Rattle.groups.specs.declared.Transition.{Transition}
-use Rattle.groups.specs.declared.Transition.TheVariants.{Stay, Push, Replace, Pop, Refuse}
+use Rattle.groups.specs.declared.Transition.TheVariants.{Stay, Push, Replace, Pop}
 
 -- an open group: its flags, and the line of its `!if`
 pub record Group : Type 0 where
@@ -44,10 +44,10 @@ abbrev pub pop : List Group → List Group
 pop [] = []
 pop (g ∷ gs) = gs
 
--- a transition at line n, whose condition applied k operators
-abbrev pub applied : Transition → (n k : ℕ) → State → Outcome
-applied (Stay m) n k s = go m (state s.groups (s.count + k) s.own)
-applied (Push m f) n k s = go m (state (group f n ∷ s.groups) (s.count + k) s.own)
-applied (Replace m f) n k s = go m (state (replace f s.groups) (s.count + k) s.own)
-applied (Pop m) n k s = go m (state (pop s.groups) (s.count + k) s.own)
-applied (Refuse f) n k s = stop f
+-- a transition at line n, whose condition applied k operators, or its refusal
+abbrev pub applied : Result Transition Fault → (n k : ℕ) → State → Outcome
+applied (Ok (Stay m)) n k s = go m (state s.groups (s.count + k) s.own)
+applied (Ok (Push m f)) n k s = go m (state (group f n ∷ s.groups) (s.count + k) s.own)
+applied (Ok (Replace m f)) n k s = go m (state (replace f s.groups) (s.count + k) s.own)
+applied (Ok (Pop m)) n k s = go m (state (pop s.groups) (s.count + k) s.own)
+applied (Err f) n k s = stop f

@@ -1,16 +1,18 @@
 -- The rules of groups (document 01, "Lines and directives" and "Refusal numbers"): which directives are read, what each does to the
 -- innermost group, and the mark of its line.
-use Rattle.std.specs.Prelude.{ℕ, Bool, true, false, not, ◌&&◌, ◌||◌, eqb, leb}
-use Rattle.units.specs.Refusals.{WORD_UNKNOWN, DIRECTIVE_STRAY, NESTING_DEEP, unplaced}
+use Rattle.std.specs.Prelude.{ℕ, Bool, true, false, not, ◌&&◌, ◌||◌, eqb, leb, Result, Ok, Err}
+use Rattle.units.specs.Refusals.{unplaced}
+use Rattle.units.specs.declared.Fault.{Fault}
+use Rattle.units.specs.declared.Reason.TheVariants.{DirectiveStray, NestingDeep, WordUnknown}
 use Rattle.text.specs.Bytes.{pick}
 use Rattle.line.specs.declared.Directive.{Directive}
 use Rattle.line.specs.declared.Directive.TheVariants.{Plain, If, Ifdef, Ifndef, Elseif, Else, Endif, Unknown}
 use Rattle.line.specs.declared.Condition.{Condition}
-use Rattle.line.specs.declared.Condition.TheVariants.{Holds, Fails, Refused}
+use Rattle.line.specs.declared.Condition.TheVariants.{Holds, Fails}
 use Rattle.groups.specs.declared.Flags.{Flags}
 use Rattle.groups.specs.declared.Innermost.{Innermost}
 use Rattle.groups.specs.declared.Transition.{Transition}
-use Rattle.groups.specs.declared.Transition.TheVariants.{Stay, Push, Replace, Pop, Refuse}
+use Rattle.groups.specs.declared.Transition.TheVariants.{Stay, Push, Replace, Pop}
 use Rattle.groups.specs.declared.Plan.{Plan}
 use Rattle.groups.specs.declared.Plan.TheVariants.{Read, Unread}
 
@@ -54,23 +56,23 @@ abbrev pub next_branch : Flags → (taken last : Bool) → Flags
 next_branch f taken last = record { around = f.around; earlier = was_taken f; taken = taken; last = last }
 
 -- a plan: read if a test holds, else this transition
-abbrev pub read_if : Bool → Transition → Plan
-read_if b r = pick b Read (Unread r)
+abbrev pub read_if : Bool → Transition → Result Plan Fault
+read_if b r = pick b (Ok Read) (Ok (Unread r))
 
-abbrev pub stray : Plan
-stray = Unread (Refuse (unplaced DIRECTIVE_STRAY))
+abbrev pub stray : Result Plan Fault
+stray = Err (unplaced DirectiveStray)
 
 -- the mark of a plain line
 abbrev pub plain_mark : Innermost → ℕ
 plain_mark s = pick s.flags.taken KEPT DROPPED
 
 -- `!if`, `!ifdef` and `!ifndef`: the current branch is the one around the new group
-abbrev pub opening : Innermost → Plan
-opening s = pick (leb MAX_GROUPS s.depth) (Unread (Refuse (unplaced NESTING_DEEP))) (read_if s.flags.taken (Push UNREAD (first_branch false false)))
+abbrev pub opening : Innermost → Result Plan Fault
+opening s = pick (leb MAX_GROUPS s.depth) (Err (unplaced NestingDeep)) (read_if s.flags.taken (Push UNREAD (first_branch false false)))
 
 -- Each directive before its text is looked at. `!elseif` and `!else` are stray outside a group and after its `!else`, `!endif` outside.
-unfoldable pub plan : Directive → Innermost → Plan
-plan Plain s = Unread (Stay (plain_mark s))
+unfoldable pub plan : Directive → Innermost → Result Plan Fault
+plan Plain s = Ok (Unread (Stay (plain_mark s)))
 plan If s = opening s
 plan Ifdef s = opening s
 plan Ifndef s = opening s
@@ -81,7 +83,7 @@ plan Else s =
     pick (eqb s.depth 0 || s.flags.last) stray
     (read_if s.flags.around (Replace UNREAD (next_branch s.flags false true)))
 plan Endif s = pick (eqb s.depth 0) stray (read_if s.flags.around (Pop UNREAD))
-plan Unknown s = Unread (Refuse (unplaced WORD_UNKNOWN))
+plan Unknown s = Err (unplaced WordUnknown)
 
 -- the mark of a read directive that begins a branch
 abbrev pub branch_mark : (taken : Bool) → ℕ
@@ -100,7 +102,7 @@ settled Plain f b = Stay UNREAD
 settled Unknown f b = Stay UNREAD
 
 -- a directive that is read, by its condition
-abbrev pub conclude : Directive → Innermost → Condition → Transition
-conclude d s (Holds n) = settled d s.flags true
-conclude d s (Fails n) = settled d s.flags false
-conclude d s (Refused f) = Refuse f
+abbrev pub conclude : Directive → Innermost → Result Condition Fault → Result Transition Fault
+conclude d s (Ok (Holds n)) = Ok (settled d s.flags true)
+conclude d s (Ok (Fails n)) = Ok (settled d s.flags false)
+conclude d s (Err f) = Err f

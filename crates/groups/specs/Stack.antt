@@ -1,14 +1,14 @@
 -- How the code holds the open groups: their flags as the bits of a number, four for each group, with the innermost group lowest, and their
 -- lines in an array, the outermost group first. Contracts between layers cite this; no promise about a selection does.
-use Rattle.std.specs.Prelude.{ℕ, zero, suc, ◌+◌, ◌*◌, ◌/◌, ◌%◌, ◌≤◌, ◌<◌, ◌≡◌, Bool, true, false, List, [], ◌∷◌, get_or, eqb}
-use Rattle.units.specs.Refusals.{unplaced}
+use Rattle.std.specs.Prelude.{ℕ, zero, suc, ◌+◌, ◌*◌, ◌/◌, ◌%◌, ◌≤◌, ◌<◌, ◌≡◌, Bool, List, [], ◌∷◌, get_or, eqb, Result, Ok, Err}
+use Rattle.units.specs.declared.Fault.{Fault}
 use Rattle.text.specs.Bytes.{pick}
 use Rattle.own.specs.Own.{Own}
 use Rattle.groups.specs.Rules.{MAX_GROUPS}
 use Rattle.groups.specs.Groups.{Group, group, State, state, Outcome, go, stop}
 use Rattle.groups.specs.declared.Flags.{Flags}
 use Rattle.groups.specs.declared.Transition.{Transition}
-use Rattle.groups.specs.declared.Transition.TheVariants.{Stay, Push, Replace, Pop, Refuse}
+use Rattle.groups.specs.declared.Transition.TheVariants.{Stay, Push, Replace, Pop}
 use Rattle.groups.specs.declared.Selection.{Selection}
 use Rattle.groups.specs.declared.Step.{Step}
 
@@ -52,9 +52,10 @@ Suits (Stay m) k = Unit
 Suits (Push m f) k = k < MAX_GROUPS
 Suits (Replace m f) k = 0 < k
 Suits (Pop m) k = 0 < k
-Suits (Refuse f) k = Unit
 
--- the step of the code from a selection x has this outcome; a refusal returns x
-abbrev pub Meets : (x : Selection) → Step → Outcome → Type 0
-Meets x z (go m s) = (z.ok ≡ true) × (z.mark ≡ m) × Represents z.next s × (z.fault ≡ unplaced 0)
-Meets x z (stop f) = (z.ok ≡ false) × (z.fault ≡ f) × (z.mark ≡ 0) × (z.next ≡ x)
+-- the step of the code has this outcome
+abbrev pub Meets : Result Step Fault → Outcome → Type 0
+Meets (Ok z) (go m s) = (z.mark ≡ m) × Represents z.next s
+Meets (Err g) (stop f) = g ≡ f
+Meets (Ok z) (stop f) = ⊥
+Meets (Err g) (go m s) = ⊥

@@ -4,8 +4,6 @@
 pub mod rules;
 pub mod stack;
 
-use units::Fault;
-
 // What the rules know of a group.
 #[derive(Clone, Copy)]
 pub struct Flags {
@@ -27,17 +25,17 @@ pub struct Innermost {
     pub flags: Flags,
 }
 
-// What a line does to the open groups, with its mark, or its refusal.
+// What a line does to the open groups, with its mark.
 #[derive(Clone, Copy)]
 pub enum Transition {
     Stay(u8),
     Push(u8, Flags),
     Replace(u8, Flags),
     Pop(u8),
-    Refuse(Fault),
 }
 
 // Whether a directive is read, and what it does if not.
+// Stays: an `Option` is no plainer, since its `None` would have to mean that the text is read.
 #[derive(Clone, Copy)]
 pub enum Plan {
     Read,
@@ -48,6 +46,8 @@ pub enum Plan {
 // of its `!if`. The flags are the digits of one number in base 16, with the innermost group as the lowest digit: a selection is copied at
 // each step, and a number stays in a register, while an array goes through memory. The first line is that of the outermost group; digits
 // and lines from `depth` on have no meaning.
+// Stays: the flags are digits and no array of `Flags`, since `Running` of the crate progress, which is repr(C), holds this struct and its
+// caller may lend any bytes for it: each number means flags, while a byte above 1 is no `bool`.
 #[repr(C)]
 #[derive(Clone, Copy)]
 pub struct Selection {
@@ -57,13 +57,10 @@ pub struct Selection {
     pub lines: [u16; 16],
 }
 
-// The outcome of a line: its mark and the selection after it; or its refusal, the selection before it and the mark 0.
-// The refusal of a line that is not refused is 0 at place 0.
+// The outcome of a line that is not refused: its mark, and the selection after it.
 #[derive(Clone, Copy)]
 pub struct Step {
     // first, so that it is copied as a whole
     pub next: Selection,
-    pub ok: bool,
-    pub fault: Fault,
     pub mark: u8,
 }

@@ -5,7 +5,10 @@ ghost use Rattle.groups.specs.Rules.{branch_mark, settled, conclude as conclude_
 
 use crate::{Flags, Innermost, Plan, Transition};
 use line::{Condition, Directive};
+use units::{Fault, Reason};
 
+// The marks of lines, as in the specification.
+// Stays: marks are bytes and no enum, since C lends the array of bytes that they go into, and include/korzhinay.h gives their numbers.
 pub const DROPPED: u8 = 0;
 
 pub const KEPT: u8 = 1;
@@ -41,7 +44,7 @@ fn next_branch(f: Flags, taken: bool, last: bool) -> Flags
 {
     Flags {
         around: f.around,
-        earlier: f.earlier | f.taken,
+        earlier: f.earlier || f.taken,
         taken,
         last,
     }
@@ -55,65 +58,60 @@ pub fn plain_mark(s: Innermost) -> u8
 }
 
 // `!if`, `!ifdef` and `!ifndef`: the current branch is the one around the new group.
-fn opening(s: Innermost) -> Plan
+fn opening(s: Innermost) -> Result<Plan, Fault>
     ensures { result ≡ opening_of s }
 {
     if MAX_GROUPS <= s.depth {
-        return Plan::Unread(Transition::Refuse(units::unplaced(units::NESTING_DEEP)));
+        return Err(Reason::NestingDeep.into());
     }
     if s.flags.taken {
-        Plan::Read
+        Ok(Plan::Read)
     } else {
-        Plan::Unread(Transition::Push(UNREAD, first_branch(false, false)))
+        Ok(Plan::Unread(Transition::Push(UNREAD, first_branch(false, false))))
     }
 }
 
 // A line with its directive, before its text is looked at. `!elseif` and `!else` are stray outside a group and after its `!else`, `!endif`
 // outside.
 #[tactic(auto, unfolding(crate::specs::Rules::plan))]
-pub fn plan(d: Directive, s: Innermost) -> Plan
+pub fn plan(d: Directive, s: Innermost) -> Result<Plan, Fault>
     ensures { result ≡ plan_of d s }
 {
     let f = s.flags;
-    let stray = Plan::Unread(Transition::Refuse(units::unplaced(units::DIRECTIVE_STRAY)));
     match d {
-        Directive::Plain => Plan::Unread(Transition::Stay(plain_mark(s))),
-        Directive::If => opening(s),
-        Directive::Ifdef => opening(s),
-        Directive::Ifndef => opening(s),
+        Directive::Plain => Ok(Plan::Unread(Transition::Stay(plain_mark(s)))),
+        Directive::If | Directive::Ifdef | Directive::Ifndef => opening(s),
         Directive::Elseif => {
-            if (s.depth == 0) | f.last {
-                return stray;
+            if s.depth == 0 || f.last {
+                return Err(Reason::DirectiveStray.into());
             }
-            if f.around & !(f.earlier | f.taken) {
-                Plan::Read
+            if f.around && !(f.earlier || f.taken) {
+                Ok(Plan::Read)
             } else {
-                Plan::Unread(Transition::Replace(UNREAD, next_branch(f, false, false)))
+                Ok(Plan::Unread(Transition::Replace(UNREAD, next_branch(f, false, false))))
             }
         }
         Directive::Else => {
-            if (s.depth == 0) | f.last {
-                return stray;
+            if s.depth == 0 || f.last {
+                return Err(Reason::DirectiveStray.into());
             }
             if f.around {
-                Plan::Read
+                Ok(Plan::Read)
             } else {
-                Plan::Unread(Transition::Replace(UNREAD, next_branch(f, false, true)))
+                Ok(Plan::Unread(Transition::Replace(UNREAD, next_branch(f, false, true))))
             }
         }
         Directive::Endif => {
             if s.depth == 0 {
-                return stray;
+                return Err(Reason::DirectiveStray.into());
             }
             if f.around {
-                Plan::Read
+                Ok(Plan::Read)
             } else {
-                Plan::Unread(Transition::Pop(UNREAD))
+                Ok(Plan::Unread(Transition::Pop(UNREAD)))
             }
         }
-        Directive::Unknown => Plan::Unread(Transition::Refuse(units::unplaced(
-            units::WORD_UNKNOWN,
-        ))),
+        Directive::Unknown => Err(Reason::WordUnknown.into()),
     }
 }
 
@@ -130,28 +128,30 @@ fn settle(d: Directive, f: Flags, holds: bool) -> Transition
     ensures { result ≡ settled d f «holds» }
 {
     match d {
-        Directive::If => Transition::Push(branch_mark(holds), first_branch(true, holds)),
-        Directive::Ifdef => Transition::Push(branch_mark(holds), first_branch(true, holds)),
-        Directive::Ifndef => Transition::Push(branch_mark(holds), first_branch(true, holds)),
+        Directive::If | Directive::Ifdef | Directive::Ifndef => {
+            Transition::Push(branch_mark(holds), first_branch(true, holds))
+        }
         Directive::Elseif => Transition::Replace(branch_mark(holds), next_branch(f, holds, false)),
         Directive::Else => {
-            let taken = !(f.earlier | f.taken);
+            let taken = !(f.earlier || f.taken);
             Transition::Replace(branch_mark(taken), next_branch(f, taken, true))
         }
         Directive::Endif => Transition::Pop(ENDED),
-        Directive::Plain => Transition::Stay(UNREAD),
-        Directive::Unknown => Transition::Stay(UNREAD),
+        Directive::Plain | Directive::Unknown => Transition::Stay(UNREAD),
     }
 }
 
 // A directive that is read, by its condition.
-pub fn conclude(d: Directive, s: Innermost, c: Condition) -> Transition
-    ensures { result ≡ conclude_of d s c }
+pub fn conclude(
+    d: Directive,
+    s: Innermost,
+    condition: Result<Condition, Fault>,
+) -> Result<Transition, Fault>
+    ensures { result ≡ conclude_of d s condition }
 {
-    let f = s.flags;
-    match c {
-        Condition::Holds(_) => settle(d, f, true),
-        Condition::Fails(_) => settle(d, f, false),
-        Condition::Refused(f) => Transition::Refuse(f),
-    }
+    let holds = match condition? {
+        Condition::Holds(_) => true,
+        Condition::Fails(_) => false,
+    };
+    Ok(settle(d, s.flags, holds))
 }

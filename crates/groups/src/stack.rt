@@ -1,21 +1,23 @@
 // The open groups of a selection, in its numbers.
-ghost use Rattle.std.specs.Prelude.{◌≡◌, List, ◌+◌, ◌^◌, ◌≤◌, ◌<◌};
+ghost use Rattle.std.specs.Prelude.{◌≡◌, List, ◌+◌, ◌^◌, ◌≤◌, ◌<◌, Ok};
 ghost use Rattle.own.specs.Own.{Own};
-ghost use Rattle.groups.specs.Groups.{innermost as innermost_of, stop, applied};
+ghost use Rattle.groups.specs.Groups.{innermost as innermost_of, applied};
 ghost use Rattle.groups.specs.Stack.{digit as digit_of, groups_of, denote_selection, Suits, Meets};
 
 use crate::{Flags, Innermost, Selection, Step, Transition, rules};
-use units::{Fault, LineNumber};
+use units::LineNumber;
 
 // Flags as the four lowest bits of a number.
+#[tactic(auto, unfolding(crate::specs::Stack::digit))]
 fn digit(f: Flags) -> u64
     ensures value { result ≡ digit_of f }
     ensures upper_bound { result < 16 }
 {
-    f.around as u64 + f.earlier as u64 * 2 + f.taken as u64 * 4 + f.last as u64 * 8
+    u64::from(f.around) + u64::from(f.earlier) * 2 + u64::from(f.taken) * 4 + u64::from(f.last) * 8
 }
 
 // What the rules know of the open groups.
+#[tactic(auto, using(crate::proofs::Stacks::some_open), unfolding(crate::specs::Stack::flags_in))]
 pub fn innermost(x: Selection) -> Innermost
     ensures { result ≡ innermost_of (groups_of x) }
 {
@@ -37,66 +39,33 @@ pub fn innermost(x: Selection) -> Innermost
 }
 
 // 16^15: the flags of 15 open groups are a number below it.
-const BELOW_TOP: u64 = 1152921504606846976;
-
-// A line that is refused.
-pub fn refused(fault: Fault, x: Selection) -> Step
-    ensures { Meets x result (stop fault) }
-{
-    Step {
-        ok: false,
-        fault,
-        mark: 0,
-        next: x,
-    }
-}
+const BELOW_TOP: u64 = 1 << 60;
 
 // A transition at line n, whose condition applied this many operators.
 pub fn apply(r: Transition, n: LineNumber, count: usize, x: Selection) -> Step
     requires { (x.depth ≤ 16) × Suits r x.depth × (n.0 < 65536) × (x.count + count < 2 ^ 64) }
-    ensures { (o : List Own) → Meets x result (applied r n.0 count (denote_selection x o)) }
+    ensures { (o : List Own) → Meets (Ok result) (applied (Ok r) n.0 count (denote_selection x o)) }
 {
     let depth = x.depth;
-    let none = units::unplaced(0);
-    let mut y = x;
-    y.count = x.count + count;
-    match r {
-        Transition::Stay(mark) => Step {
-            next: y,
-            ok: true,
-            fault: none,
-            mark,
-        },
+    let mut next = x;
+    next.count = x.count + count;
+    let mark = match r {
+        Transition::Stay(mark) => mark,
         Transition::Push(mark, f) => {
-            y.states = x.states % BELOW_TOP * 16 + digit(f);
-            y.lines[depth] = n.0 as u16;
-            y.depth = depth + 1;
-            Step {
-                next: y,
-                ok: true,
-                fault: none,
-                mark,
-            }
+            next.states = x.states % BELOW_TOP * 16 + digit(f);
+            next.lines[depth] = n.0 as u16;
+            next.depth = depth + 1;
+            mark
         }
         Transition::Replace(mark, f) => {
-            y.states = x.states / 16 * 16 + digit(f);
-            Step {
-                next: y,
-                ok: true,
-                fault: none,
-                mark,
-            }
+            next.states = x.states / 16 * 16 + digit(f);
+            mark
         }
         Transition::Pop(mark) => {
-            y.depth = depth - 1;
-            y.states = x.states / 16;
-            Step {
-                next: y,
-                ok: true,
-                fault: none,
-                mark,
-            }
+            next.depth = depth - 1;
+            next.states = x.states / 16;
+            mark
         }
-        Transition::Refuse(f) => refused(f, x),
-    }
+    };
+    Step { next, mark }
 }

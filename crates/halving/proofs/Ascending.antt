@@ -13,13 +13,13 @@ use Rattle.text.specs.Bytes.{pick}
 use Rattle.text.specs.Runs.{span}
 use Rattle.text.specs.Order.{compared, is_less, less}
 use Rattle.text.specs.declared.runs.Set.TheVariants.{NonZero}
-use Rattle.text.specs.declared.order.Order.{Order}
-use Rattle.text.specs.declared.order.Order.TheVariants.{Less, Equal, Greater}
 use Rattle.text.proofs.Laws.{and_left, and_right}
 use Rattle.text.proofs.Orders.{not_less, less_first, less_later, less_either, less_less}
 use Rattle.settings.specs.Table.{records_in, records, name_field, unpadded, name_of, zeros, is_name, well_formed_name, ordered_names, ordered}
 use Rattle.halving.specs.Halving.{name_of_record}
 use Rattle.halving.proofs.RecordsAt.{records_length}
+use Rattle.std.specs.declared.cmp.Ordering.{Ordering}
+use Rattle.std.specs.declared.cmp.Ordering.TheVariants.{Equal, Greater, Less}
 
 -- zeros of one length are the same
 zeros_same : (f g : List ℕ) → length f ≡ length g → zeros f ≡ true → zeros g ≡ true → f ≡ g
@@ -80,7 +80,7 @@ unfolding ordered_names
 first_well q [] h = h
 first_well q (r ∷ rs) h = and_left (well_formed_name (name_field q)) _ h
 
-is_less_lem : (o : Order) → is_less o ≡ true → o ≡ Less
+is_less_lem : (o : Ordering) → is_less o ≡ true → o ≡ Less
 is_less_lem Less e = refl
 is_less_lem Equal e = absurd (false≢true e)
 is_less_lem Greater e = absurd (false≢true e)

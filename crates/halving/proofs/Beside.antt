@@ -14,9 +14,9 @@ use Rattle.text.specs.Runs.{holds, span}
 use Rattle.text.specs.Order.{compared}
 use Rattle.text.specs.declared.runs.Set.{Set}
 use Rattle.text.specs.declared.runs.Set.TheVariants.{NonZero}
-use Rattle.text.specs.declared.order.Order.TheVariants.{Less, Equal, Greater}
 use Rattle.text.proofs.Laws.{inside, span_fits}
 use Rattle.settings.specs.Table.{unpadded}
+use Rattle.std.specs.declared.cmp.Ordering.TheVariants.{Equal, Greater, Less}
 
 -- the run at the front of a list's beginning is no longer than that of the list
 pub span_take : (k : Set) (m : ℕ) (s : List ℕ) → span k (take m s) ≤ span k s
@@ -118,3 +118,6 @@ module _ (n f : List ℕ) (r : ℕ) (h : r ≤ span NonZero n) (e : take r n ≡
 
   pub same_beginning : compared n (unpadded f) ≡ compared (drop r n) (unpadded (drop r f))
   same_beginning = same_to r (omega arith)
+
+-- what each exit of a comparison needs
+pub ruleset beside = (same_byte, less_byte, greater_byte, field_over, both_over, name_over, same_beginning, span_fits)

@@ -2,19 +2,21 @@
 use Prim.Native.Nat.{ℕ, zero, suc, ◌+◌, ◌-◌, ◌≤◌, ◌<◌}
 use native.Mathlib.Omega.{arith}
 use mathlib.Core.Path.{◌≡◌, refl, sym, ap, ◌∙◌}
-use mathlib.Core.Bool.{Bool, true, false, false≢true}
+use mathlib.Core.Bool.{Bool, true, false}
 use mathlib.Core.List.{List}
 use lib.ListN.{length}
 use lib.Dec.{eqb, ltb}
 use borrow.Author.Tests.{eqb-true, eqb-false, ltb-true, ltb-false}
+use Rattle.std.proofs.Common.{Some}
+use Rattle.std.proofs.lemmas.Option.{none-some, same_Some}
 use Rattle.text.specs.Bytes.{pick}
 use Rattle.text.specs.Order.{compared}
-use Rattle.text.specs.declared.order.Order.{Order}
-use Rattle.text.specs.declared.order.Order.TheVariants.{Less, Equal, Greater}
 use Rattle.text.proofs.Orders.{turned, not_less, equal_same, turned_compared, less_less}
 use Rattle.halving.specs.Halving.{name_of_record, nowhere, found_at, round_more, by_order, middle, halve, halving, Finds}
 use Rattle.halving.specs.declared.Found.{Found}
 use Rattle.halving.proofs.Ascending.{Ascends}
+use Rattle.std.specs.declared.cmp.Ordering.{Ordering}
+use Rattle.std.specs.declared.cmp.Ordering.TheVariants.{Equal, Greater, Less}
 
 module _ (rs : List (List ℕ)) (n : List ℕ) (up : Ascends rs) where
   -- n is greater than the names before low, and less than those from high on
@@ -27,7 +29,7 @@ module _ (rs : List (List ℕ)) (n : List ℕ) (up : Ascends rs) where
   -- no record is left
   none : (low high : ℕ) → high ≤ low → Passed low → Ahead high → Finds rs n nowhere
   none low high h p a = record {
-    hit = λ e. absurd (false≢true e);
+    hit = λ i e. absurd (none-some i e);
     miss = λ _ i l e. by i l e (ltb i low) refl;
   }
     where
@@ -40,8 +42,8 @@ module _ (rs : List (List ℕ)) (n : List ℕ) (up : Ascends rs) where
 
   there : (m : ℕ) → m < length rs → compared n (name_of_record rs m) ≡ Equal → Finds rs n (found_at m)
   there m h e = record {
-    hit = λ _. (h, sym (equal_same n (name_of_record rs m) e));
-    miss = λ g. absurd (false≢true (sym g));
+    hit = λ i g. rw (← same_Some m i g) (h, sym (equal_same n (name_of_record rs m) e));
+    miss = λ g. absurd (none-some m (sym g));
   }
 
   -- to the left of a name that is greater than n, and to the right of one that is less
@@ -76,7 +78,7 @@ module _ (rs : List (List ℕ)) (n : List ℕ) (up : Ascends rs) where
       m : ℕ
       m = middle low high
 
-      by : (t : Bool) → ltb low high ≡ t → (o : Order) → compared n (name_of_record rs (middle low high)) ≡ o
+      by : (t : Bool) → ltb low high ≡ t → (o : Ordering) → compared n (name_of_record rs (middle low high)) ≡ o
           → ((low₁ high₁ : ℕ) → high₁ ≤ length rs → high₁ - low₁ ≤ fuel → Passed low₁ → Ahead high₁ → Finds rs n (halve fuel low₁ high₁ rs n))
           → Finds rs n (pick t (round_more (by_order o (halve fuel low m rs n) (found_at m) (halve fuel (m + 1) high rs n))) nowhere)
       by false g o e rec = none low high (ltb-false low high g) p a
@@ -90,28 +92,27 @@ module _ (rs : List (List ℕ)) (n : List ℕ) (up : Ascends rs) where
   finds = finds_from (length rs) 0 (length rs) (omega arith) (omega arith) (λ i l. absurd (omega arith)) (λ i h l. absurd (omega arith))
 
 -- a record that is found is one of them, whether or not names ascend
-found_within : (rs : List (List ℕ)) (n : List ℕ) (fuel low high : ℕ) → high ≤ length rs
-    → (halve fuel low high rs n).there ≡ true → (halve fuel low high rs n).at < length rs
+abbrev Inside : ℕ → Found → Type 0
+Inside k f = (i : ℕ) → f.at ≡ Some i → i < k
+
+found_within : (rs : List (List ℕ)) (n : List ℕ) (fuel low high : ℕ) → high ≤ length rs → Inside (length rs) (halve fuel low high rs n)
 unfolding halve
-found_within rs n zero low high h e = absurd (false≢true e)
-found_within rs n (suc fuel) low high h e =
-    by (ltb low high) refl (compared n (name_of_record rs (middle low high))) (λ low₁ high₁ h₁. found_within rs n fuel low₁ high₁ h₁) e
+found_within rs n zero low high h i e = absurd (none-some i e)
+found_within rs n (suc fuel) low high h i e =
+    by (ltb low high) refl (compared n (name_of_record rs (middle low high))) (λ low₁ high₁ h₁. found_within rs n fuel low₁ high₁ h₁) i e
   where
     m : ℕ
     m = middle low high
 
-    choice : Bool → Order → Found
-    choice t o = pick t (round_more (by_order o (halve fuel low m rs n) (found_at m) (halve fuel (m + 1) high rs n))) nowhere
+    by : (t : Bool) → ltb low high ≡ t → (o : Ordering)
+        → ((low₁ high₁ : ℕ) → high₁ ≤ length rs → Inside (length rs) (halve fuel low₁ high₁ rs n))
+        → Inside (length rs) (pick t (round_more (by_order o (halve fuel low m rs n) (found_at m) (halve fuel (m + 1) high rs n))) nowhere)
+    by false g o rec i e = absurd (none-some i e)
+    by true g Less rec i e = rec low m (omega (arith, h, ltb-true low high g)) i e
+    by true g Equal rec i e = omega (arith, h, ltb-true low high g, same_Some m i e)
+    by true g Greater rec i e = rec (m + 1) high h i e
 
-    by : (t : Bool) → ltb low high ≡ t → (o : Order)
-        → ((low₁ high₁ : ℕ) → high₁ ≤ length rs → (halve fuel low₁ high₁ rs n).there ≡ true → (halve fuel low₁ high₁ rs n).at < length rs)
-        → (choice t o).there ≡ true → (choice t o).at < length rs
-    by false g o rec e = absurd (false≢true e)
-    by true g Less rec e = rec low m (omega (arith, h, ltb-true low high g)) e
-    by true g Equal rec e = omega (arith, h, ltb-true low high g)
-    by true g Greater rec e = rec (m + 1) high h e
-
-pub found_inside : (rs : List (List ℕ)) (n : List ℕ) → (halving rs n).there ≡ true → (halving rs n).at < length rs
+pub found_inside : (rs : List (List ℕ)) (n : List ℕ) (i : ℕ) → (halving rs n).at ≡ Some i → i < length rs
 found_inside rs n = found_within rs n (length rs) 0 (length rs) (omega arith)
 
 -- at most one record has a name

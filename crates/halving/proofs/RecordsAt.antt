@@ -1,18 +1,17 @@
 -- The records of a table by their places. Assumes nothing.
 use Prim.Native.Nat.{ℕ, zero, suc, ◌+◌, ◌-◌, ◌*◌, ◌/◌, ◌<◌}
 use native.Mathlib.Omega.{arith}
-use mathlib.Core.Path.{◌≡◌, refl, ap}
+use mathlib.Core.Path.{◌≡◌, refl}
 use mathlib.Core.List.{List, []}
 use lib.ListN.{length, get_or, take, drop}
 use lib.Seq.{drop-drop}
 use Rattle.settings.specs.Table.{records_in, records, unpadded}
+use Rattle.settings.proofs.TableRecords as TableRecords
 use Rattle.settings.proofs.TableRecords.{field}
 use Rattle.halving.specs.Halving.{name_of_record}
 
 pub records_length : (m : ℕ) (t : List ℕ) → length (records_in m t) ≡ m
-unfolding records_in
-records_length zero t = refl
-records_length (suc m) t = ap suc (records_length m (drop 128 t))
+records_length = TableRecords.records_length
 
 pub record_at : (m i : ℕ) (t : List ℕ) → i < m → get_or (records_in m t) i [] ≡ take 128 (drop (128 * i) t)
 unfolding records_in

@@ -7,14 +7,15 @@ use mathlib.Core.List.{List}
 use lib.ListN.{length}
 use lib.Dec.{ltb, lit≤}
 use borrow.Author.Tests.{lt-ltb, le-ltb, ltb-true}
+use Rattle.std.proofs.Common.{Some}
 use Rattle.text.specs.Bytes.{pick}
 use Rattle.text.specs.Order.{compared}
-use Rattle.text.specs.declared.order.Order.{Order}
-use Rattle.text.specs.declared.order.Order.TheVariants.{Less, Equal, Greater}
 use Rattle.text.proofs.Orders.{same_equal}
 use Rattle.settings.specs.Table.{records, ordered}
 use Rattle.halving.specs.Halving.{name_of_record, nowhere, found_at, round_more, by_order, middle, halve, halving}
 use Rattle.halving.proofs.Ascending.{Ascends, few}
+use Rattle.std.specs.declared.cmp.Ordering.{Ordering}
+use Rattle.std.specs.declared.cmp.Ordering.TheVariants.{Equal, Greater, Less}
 
 -- fewer than 2^b records take at most b rounds
 bounded : (rs : List (List ℕ)) (n : List ℕ) (fuel b low high : ℕ) → high - low < 2 ^ b → (halve fuel low high rs n).rounds ≤ b
@@ -27,7 +28,7 @@ bounded rs n (suc fuel) (suc b) low high h =
     m : ℕ
     m = middle low high
 
-    by : (t : Bool) → ltb low high ≡ t → (o : Order)
+    by : (t : Bool) → ltb low high ≡ t → (o : Ordering)
         → ((low₁ high₁ : ℕ) → high₁ - low₁ < 2 ^ b → (halve fuel low₁ high₁ rs n).rounds ≤ b)
         → (pick t (round_more (by_order o (halve fuel low m rs n) (found_at m) (halve fuel (m + 1) high rs n))) nowhere).rounds ≤ suc b
     by false g o rec = omega arith
@@ -47,7 +48,7 @@ power (suc b) = omega (arith, power b)
 
 -- the first of 2^b records takes b + 1 rounds
 module _ (rs : List (List ℕ)) (up : Ascends rs) where
-  first : (b fuel : ℕ) → b < fuel → 2 ^ b ≤ length rs → halve fuel 0 (2 ^ b) rs (name_of_record rs 0) ≡ record { there = true; at = 0; rounds = suc b }
+  first : (b fuel : ℕ) → b < fuel → 2 ^ b ≤ length rs → halve fuel 0 (2 ^ b) rs (name_of_record rs 0) ≡ record { at = Some 0; rounds = suc b }
   unfolding halve
   first b zero h l = absurd (omega arith)
   first zero (suc fuel) h l = rw (same_equal (name_of_record rs 0))
@@ -60,5 +61,5 @@ module _ (rs : List (List ℕ)) (up : Ascends rs) where
         first b fuel (omega arith) (omega arith),
       )
 
-  pub first_takes_ten : length rs ≡ 512 → halving rs (name_of_record rs 0) ≡ record { there = true; at = 0; rounds = 10 }
+  pub first_takes_ten : length rs ≡ 512 → halving rs (name_of_record rs 0) ≡ record { at = Some 0; rounds = 10 }
   first_takes_ten h = rw h (first 9 512 (lit≤ tt) (omega (arith, h)))

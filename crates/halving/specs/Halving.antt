@@ -1,11 +1,11 @@
 -- Search by halving (document 02, order 4): names ascend, so the order of a name and the one in the middle tells the half that it is in.
-use Rattle.std.specs.Prelude.{ℕ, zero, suc, ◌+◌, ◌-◌, ◌/◌, ◌<◌, ◌≡◌, true, false, List, [], length, get_or, ltb}
+use Rattle.std.specs.Prelude.{ℕ, zero, suc, ◌+◌, ◌-◌, ◌/◌, ◌<◌, ◌≡◌, Some, None, List, [], length, get_or, ltb}
 use Rattle.text.specs.Bytes.{pick}
 use Rattle.text.specs.Order.{compared}
-use Rattle.text.specs.declared.order.Order.{Order}
-use Rattle.text.specs.declared.order.Order.TheVariants.{Less, Equal, Greater}
 use Rattle.settings.specs.Table.{name_of}
 use Rattle.halving.specs.declared.Found.{Found}
+use Rattle.std.specs.declared.cmp.Ordering.{Ordering}
+use Rattle.std.specs.declared.cmp.Ordering.TheVariants.{Equal, Greater, Less}
 
 -- the name of the record at i, counted from 0
 abbrev pub name_of_record : List (List ℕ) → ℕ → List ℕ
@@ -13,16 +13,16 @@ name_of_record rs i = name_of (get_or rs i [])
 
 -- no record, the record at i, and a result with one round more
 abbrev pub nowhere : Found
-nowhere = record { there = false; at = 0; rounds = 0 }
+nowhere = record { at = None; rounds = 0 }
 
 abbrev pub found_at : ℕ → Found
-found_at i = record { there = true; at = i; rounds = 0 }
+found_at i = record { at = Some i; rounds = 0 }
 
 abbrev pub round_more : Found → Found
-round_more f = record { there = f.there; at = f.at; rounds = suc f.rounds }
+round_more f = record { at = f.at; rounds = suc f.rounds }
 
 -- the result that belongs to an order
-abbrev pub by_order : Order → (ifLess ifEqual ifGreater : Found) → Found
+abbrev pub by_order : Ordering → (ifLess ifEqual ifGreater : Found) → Found
 by_order Less l e g = l
 by_order Equal l e g = e
 by_order Greater l e g = g
@@ -45,5 +45,5 @@ halving rs n = halve (length rs) 0 (length rs) rs n
 
 -- f tells which record has the name n, or that none has it
 pub record Finds (rs : List (List ℕ)) (n : List ℕ) (f : Found) : Type 0 where
-  pub hit : f.there ≡ true → (f.at < length rs) × (name_of_record rs f.at ≡ n)
-  pub miss : f.there ≡ false → (i : ℕ) → i < length rs → name_of_record rs i ≡ n → ⊥
+  pub hit : (i : ℕ) → f.at ≡ Some i → (i < length rs) × (name_of_record rs i ≡ n)
+  pub miss : f.at ≡ None → (i : ℕ) → i < length rs → name_of_record rs i ≡ n → ⊥

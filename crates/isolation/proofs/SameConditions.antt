@@ -3,12 +3,16 @@ use Prim.Native.Nat.{ℕ}
 use mathlib.Core.Path.{◌≡◌, refl, sym, ap, ◌∙◌}
 use mathlib.Core.Bool.{Bool, true, false}
 use mathlib.Core.List.{List}
+use Rattle.std.specs.Prelude.{Option, Some, None}
+use Rattle.std.specs.Option.{is_some}
 use Rattle.units.specs.Dialects.{by_itself, in_directives}
-use Rattle.units.specs.Refusals.{TEXT_MALFORMED, unplaced}
+use Rattle.units.specs.Refusals.{unplaced}
 use Rattle.units.specs.declared.Dialect.{Dialect}
+use Rattle.units.specs.declared.Reason.TheVariants.{TextMalformed}
 use Rattle.text.specs.Bytes.{pick}
 use Rattle.lookup.specs.Setting.{setting_under, record_under}
-use Rattle.lookup.proofs.Records.{contents_of, under_content}
+use Rattle.lookup.specs.declared.Value.{Value}
+use Rattle.lookup.proofs.Records.{contents_in, contents_of, under_content}
 use Rattle.own.specs.Own.{Own, scope}
 use Rattle.scoped.proofs.UnderName.{same_scope}
 use Rattle.value.specs.Places.{over}
@@ -17,7 +21,7 @@ use Rattle.evaluation.specs.Evaluation.{Evaluation, value, refused, evaluation_i
 use Rattle.answers.specs.Names.{Names}
 use Rattle.answers.proofs.AnswerIsolated.{erase_places_in, isolated}
 use Rattle.line.specs.declared.Directive.{Directive}
-use Rattle.line.specs.declared.Directive.TheVariants.{Plain, If, Ifdef, Ifndef, Elseif, Else, Endif, Unknown}
+use Rattle.line.specs.declared.Directive.TheVariants.{If, Ifdef, Ifndef, Elseif}
 use Rattle.condition.specs.Conditions.{of_answer, of_expression, of_named, of_macro, evaluate}
 use Rattle.define.specs.Define.{shaped, macro_of, expression_start, expression_of, Definition, fails, of_answer as definition_from, definition_of}
 use Rattle.isolation.specs.Isolation.{macro_in, Mentions}
@@ -37,8 +41,15 @@ erased_definition o n p (value (text j q s) k) = refl
 erased_definition o n p (value (fault r) k) = refl
 erased_definition o n p (refused r) = refl
 
-same_found : (t₁ t₂ n : List ℕ) → record_under t₁ n ≡ record_under t₂ n → (setting_under t₁ n).found ≡ (setting_under t₂ n).found
-same_found t₁ t₂ n e = ap (λ c. c.found) (under_content t₁ n ∙ ap contents_of e ∙ sym (under_content t₂ n))
+-- a setting that is seen by its content is set as before
+still_some : (t : List ℕ) (s : Option Value) → is_some (contents_in t s) ≡ is_some s
+still_some t None = refl
+still_some t (Some v) = refl
+
+same_found : (t₁ t₂ n : List ℕ) → record_under t₁ n ≡ record_under t₂ n → is_some (setting_under t₁ n) ≡ is_some (setting_under t₂ n)
+same_found t₁ t₂ n e =
+    sym (still_some t₁ (setting_under t₁ n)) ∙ ap is_some (under_content t₁ n ∙ ap contents_of e ∙ sym (under_content t₂ n))
+    ∙ still_some t₂ (setting_under t₂ n)
 
 module _ (t₁ t₂ s : List ℕ) (δ : Dialect) where
   abbrev answer_over : List ℕ → Evaluation
@@ -58,10 +69,7 @@ module _ (t₁ t₂ s : List ℕ) (δ : Dialect) where
   same_condition Elseif h = same_expression (isolated s t₁ t₂ (in_directives δ) h)
   same_condition Ifdef h = same_name true (h (macro_in s δ) refl)
   same_condition Ifndef h = same_name false (h (macro_in s δ) refl)
-  same_condition Else h = refl
-  same_condition Endif h = refl
-  same_condition Plain h = refl
-  same_condition Unknown h = refl
+  same_condition _ h = refl
 
 -- a line l, with the same settings in front of both tables
 module _ (o : List Own) (t₁ t₂ l : List ℕ) (δ : Dialect) where
@@ -78,5 +86,5 @@ module _ (o : List Own) (t₁ t₂ l : List ℕ) (δ : Dialect) where
       let erase : (x : Evaluation) → said (erase_places_in x) ≡ said x = erased_definition o (macro_of l) (expression_start l) in
       let e : erase_places_in (answer_behind t₁) ≡ erase_places_in (answer_behind t₂) =
       isolated (expression_of l) (scope o t₁) (scope o t₂) (by_itself δ.old) (λ n m. same_scope o t₁ t₂ n (h n m)) in
-      ap (λ d. pick (shaped l) d (fails (unplaced TEXT_MALFORMED)))
+      ap (λ d. pick (shaped l) d (fails (unplaced TextMalformed)))
       (sym (erase (answer_behind t₁)) ∙ ap said e ∙ erase (answer_behind t₂))

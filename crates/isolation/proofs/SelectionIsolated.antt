@@ -8,7 +8,9 @@ use mathlib.Core.Bool.{Bool, true, false, false≢true}
 use mathlib.Core.List.{List, [], ◌++◌}
 use lib.ListN.{length, get_or, take, drop}
 use lib.Seq.{take_at}
+use Rattle.std.specs.Prelude.{Ok, Err, Result as Answered}
 use Rattle.units.specs.declared.Dialect.{Dialect}
+use Rattle.units.specs.declared.Fault.{Fault}
 use Rattle.own.specs.Own.{scope}
 use Rattle.scoped.proofs.UnderName.{same_scope}
 use Rattle.line.specs.Lines.{lines}
@@ -21,9 +23,8 @@ use Rattle.groups.specs.declared.Plan.{Plan}
 use Rattle.groups.specs.declared.Plan.TheVariants.{Read as IsRead, Unread}
 use Rattle.select.specs.Step.{defines, step}
 use Rattle.select.proofs.Steps.{Marked, step_marked, Defines, step_defines}
-use Rattle.select.specs.Select.{Result, accepted, refused, start, selection, number_of_lines, Selects}
-use Rattle.select.specs.declared.Answer.{Answer}
-use Rattle.select.specs.declared.Answer.TheVariants.{Accepted}
+use Rattle.select.specs.Select.{Result, accepted, refused, start, selection, Answer, number_of_lines, count_of, Selects}
+use Rattle.select.specs.declared.Selected.{Selected}
 use Rattle.isolation.specs.Isolation.{Read, Agrees, Comparable}
 use Rattle.isolation.proofs.SameConditions.{same_condition, same_definition}
 use Rattle.isolation.proofs.Simulation.{Like, AllLike, same_run}
@@ -57,44 +58,49 @@ isolation δ f₁ t₁ room₁ ms c h f₂ t₂ room₂ k =
 -- the mark of a line shows whether it was read: whether it is a directive that is read, or a kept DEFINE line
 abbrev pub MarksTell : Type 0
 MarksTell = (t : List ℕ) (δ : Dialect) (n : ℕ) (s : State) (l : List ℕ) (m : ℕ) (s' : State) → step t n s l δ ≡ go m s'
-    → ((plan (directive_of l) (innermost s.groups) ≡ IsRead) ⊎ (defines s l ≡ true)) ↔ Read m
+    → ((plan (directive_of l) (innermost s.groups) ≡ Ok IsRead) ⊎ (defines s l ≡ true)) ↔ Read m
 
 pub marks_tell : MarksTell
 marks_tell t δ n s l m s' e = which (defines s l) refl
   where
-    by : (p : Plan) → Marked t δ n s l p (go m s') → (b : Bool) → b ≡ false → ((p ≡ IsRead) ⊎ (b ≡ true)) ↔ Read m
-    by IsRead h b f = (λ _. h.0, λ _. inl refl)
-    by (Unread r) h b f = (unread, λ k. absurd (omega (arith, h.0)))
+    by : (p : Answered Plan Fault) → Marked t δ n s l p (go m s') → (b : Bool) → b ≡ false → ((p ≡ Ok IsRead) ⊎ (b ≡ true)) ↔ Read m
+    by (Ok IsRead) h b f = (λ _. h.0, λ _. inl refl)
+    by (Ok (Unread r)) h b f = (unread, λ k. absurd (omega (arith, h.0)))
       where
-        unread : (Unread r ≡ IsRead) ⊎ (b ≡ true) → Read m
-        unread (inl q) = let z : ◌≡◌ {A = ℕ} 0 1 = cc in absurd (omega arith)
+        unread : ◌≡◌ {A = Answered Plan Fault} (Ok (Unread r)) (Ok IsRead) ⊎ (b ≡ true) → Read m
+        unread (inl q) = absurd cc
         unread (inr q) = absurd (false≢true (sym f ∙ q))
+    by (Err x) h b f = absurd h
 
-    which : (b : Bool) → defines s l ≡ b → ((plan (directive_of l) (innermost s.groups) ≡ IsRead) ⊎ (defines s l ≡ true)) ↔ Read m
+    which : (b : Bool) → defines s l ≡ b → ((plan (directive_of l) (innermost s.groups) ≡ Ok IsRead) ⊎ (defines s l ≡ true)) ↔ Read m
     which true f = let d : Defines t δ n s l (go m s') = rw e at (step_defines t δ n s l f) in (λ _. omega (arith, d.0), λ _. inr f)
     which false f = by (plan (directive_of l) (innermost s.groups)) (rw e at (step_marked t δ n s l f)) (defines s l) f
 
+-- the answer of a selection that is accepted
+abbrev pub selected : (lines count : ℕ) → Selected
+selected n c = record { lines = record { 0 = n }; count = c }
+
 -- an accepted answer, and the marks that its call left
 accepted_call : (f t : List ℕ) (δ : Dialect) (marks : List ℕ) (r : Answer) (left : List ℕ) → Selects f t marks r left δ
-    → (n c : ℕ) → r ≡ Accepted (record { 0 = n }) c
+    → (n c : ℕ) → r ≡ Ok (selected n c)
     → (selection f t (length marks) δ ≡ accepted (take n left) c) × (length (take n left) ≡ n)
 accepted_call f t δ marks r left h n c e = by (selection f t (length marks) δ) refl
   where
     by : (w : Result) → selection f t (length marks) δ ≡ w → (selection f t (length marks) δ ≡ accepted (take n left) c) × (length (take n left) ≡ n)
-    by (refused x j) q = let z : ◌≡◌ {A = ℕ} 0 1 = cc h.answer in absurd (omega arith)
+    by (refused x j) q = absurd (cc h.answer)
     by (accepted ms d) q =
-        let a : Accepted (record { 0 = n }) c ≡ Accepted (record { 0 = length ms }) d = sym e ∙ h.answer ∙ rw q in
+        let a : Ok (selected n c) ≡ Ok (selected (length ms) d) = sym e ∙ h.answer ∙ rw q in
         let i : length ms ≡ n = ap number_of_lines (sym a) in
-        let j : c ≡ d = cc in
+        let j : c ≡ d = ap count_of a in
         let m : left ≡ ms ++ drop (length ms) marks = h.marks_are ∙ rw q in
         let k : take n left ≡ ms = ap (take n) m ∙ take_at ms (drop (length ms) marks) n i in
         (rw (k, j) q, ap length k ∙ i)
 
 pub two_calls : (δ : Dialect) (f₁ t₁ marks₁ : List ℕ) (r₁ : Answer) (left₁ : List ℕ) → Selects f₁ t₁ marks₁ r₁ left₁ δ
-    → (n c : ℕ) → r₁ ≡ Accepted (record { 0 = n }) c
+    → (n c : ℕ) → r₁ ≡ Ok (selected n c)
     → (f₂ t₂ marks₂ : List ℕ) (r₂ : Answer) (left₂ : List ℕ) → Selects f₂ t₂ marks₂ r₂ left₂ δ
     → Comparable f₁ t₁ (take n left₁) f₂ t₂ (length marks₂) δ
-    → (r₂ ≡ Accepted (record { 0 = n }) c) × (take n left₂ ≡ take n left₁)
+    → (r₂ ≡ Ok (selected n c)) × (take n left₂ ≡ take n left₁)
 two_calls δ f₁ t₁ marks₁ r₁ left₁ h₁ n c e f₂ t₂ marks₂ r₂ left₂ h₂ k =
     let p = accepted_call f₁ t₁ δ marks₁ r₁ left₁ h₁ n c e in
     let q = isolation δ f₁ t₁ (length marks₁) (take n left₁) c p.0 f₂ t₂ (length marks₂) k in

@@ -6,7 +6,9 @@ use mathlib.Core.Path.{◌≡◌, refl, sym, ap, ◌∙◌}
 use mathlib.Core.Bool.{Bool, true, false, ◌&&◌, false≢true}
 use mathlib.Core.List.{List, [], ◌∷◌}
 use lib.ListN.{length, get_or}
+use Rattle.std.specs.Prelude.{Ok, Err, Result as Answered}
 use Rattle.units.specs.declared.Dialect.{Dialect}
+use Rattle.units.specs.declared.Fault.{Fault}
 use Rattle.text.proofs.Laws.{and_left}
 use Rattle.own.specs.Own.{Own, scope}
 use Rattle.line.specs.Directives.{is_define, directive_of}
@@ -39,7 +41,7 @@ module _ (t₁ t₂ : List ℕ) (δ : Dialect) (n : ℕ) (s : State) (l₁ l₂ 
   taken = (innermost s.groups).flags.taken
 
   short : length l₁ ≤ 1024
-  short = short_step t₁ δ n s l₁ (go m s') e (λ q. let z : ◌≡◌ {A = ℕ} 0 1 = cc in omega arith)
+  short = short_step t₁ δ n s l₁ (go m s') e (λ q. cc)
 
   -- a kept DEFINE line says the same in both
   same_defined : defines s l₁ ≡ true → step t₂ n s l₂ δ ≡ go m s'
@@ -64,14 +66,15 @@ module _ (t₁ t₂ : List ℕ) (δ : Dialect) (n : ℕ) (s : State) (l₁ l₂ 
           absurd (false≢true (sym (like.kept (sym k ∙ rw q)) ∙ p))
 
   -- the condition has an effect only if the directive is read, and then both lines make the same one
-  same_planned : (p : Plan) → Marked t₁ δ n s l₁ p (go m s')
+  same_planned : (p : Answered Plan Fault) → Marked t₁ δ n s l₁ p (go m s')
       → planned p (directive_of l₁) (condition_of (scope s.own t₂) (directive_of l₁) l₂ δ) n s ≡ planned p (directive_of l₁) (said t₁ δ n s l₁) n s
-  same_planned Read h = rw (like.condition h.0 s.own)
-  same_planned (Unread r) h = refl
+  same_planned (Ok Read) h = rw (like.condition h.0 s.own)
+  same_planned (Ok (Unread r)) h = refl
+  same_planned (Err x) h = refl
 
   same_decided : defines s l₁ ≡ false → step t₂ n s l₂ δ ≡ go m s'
   same_decided f =
-      let p : Plan = plan (directive_of l₁) (innermost s.groups) in
+      let p : Answered Plan Fault = plan (directive_of l₁) (innermost s.groups) in
       let h : Marked t₁ δ n s l₁ p (go m s') = rw e at (step_marked t₁ δ n s l₁ f) in
       decided_step t₂ δ n s l₂ like.short (same_other f) ∙ rw like.word (same_planned p h) ∙ sym (decided_step t₁ δ n s l₁ short f) ∙ e
 

@@ -4,10 +4,10 @@ ghost use Rattle.marshal.specs.Calls.{dialect_of, Fills};
 // The bytes of a data field: 0, the length of the field in `out`, and the field at the front of `buffer`; or the refusal number, its offset in
 // `out`, and `buffer` as it was.
 // Bit 0 of `dialect` is the edition, 1 for the old one.
-pub fn korzhinay_field<'a>(
+pub fn korzhinay_field(
     buffer: &mut [u8],
-    expr: &'a [u8],
-    table: &'a [u8],
+    expr: &[u8],
+    table: &[u8],
     datum: u8,
     dialect: u8,
     out: &mut [u64; 2],

@@ -1,10 +1,10 @@
 -- The first PCD that is missing from a token on. Assumes nothing.
+use Rattle.std.specs.Prelude.{None}
 use Prim.Native.Nat.{ℕ, suc, ◌+◌, ◌-◌, ◌≤◌, ◌<◌}
 use native.Mathlib.Omega.{arith}
 use mathlib.Core.Path.{◌≡◌}
 use mathlib.Core.Bool.{true, false}
 use Rattle.units.specs.Leftmost.{there}
-use Rattle.units.specs.declared.Where.TheVariants.{Nowhere}
 use Rattle.token.specs.Tokens.{Token}
 use Rattle.value.specs.Places.{Memory}
 use Rattle.value.specs.Values.{is_missing_pcd, missing_pcds}
@@ -23,6 +23,6 @@ module _ (m : Memory) (tok : ℕ → Token) (n i : ℕ) where
   on h b = let e : n - i ≡ suc (n - (i + 1)) = omega arith in rw (e, b)
 
   -- after the last token
-  pub over : n ≤ i → pcd_at m (tokens_from tok i (n - i)) ≡ Nowhere
+  pub over : n ≤ i → pcd_at m (tokens_from tok i (n - i)) ≡ None
   unfolding missing_pcds tokens_from
   over h = let e : n - i ≡ 0 = omega arith in rw e

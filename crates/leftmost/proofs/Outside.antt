@@ -1,11 +1,11 @@
 -- The first bar outside parentheses from a token on. Assumes nothing.
+use Rattle.std.specs.Prelude.{None}
 use Prim.Native.Nat.{ℕ, suc, ◌+◌, ◌-◌, ◌≤◌, ◌<◌}
 use native.Mathlib.Omega.{arith}
 use mathlib.Core.Path.{◌≡◌}
 use mathlib.Core.Bool.{Bool, true, false, ◌&&◌}
 use lib.Dec.{eqb}
 use Rattle.units.specs.Leftmost.{there}
-use Rattle.units.specs.declared.Where.TheVariants.{Nowhere}
 use Rattle.text.specs.Bytes.{pick}
 use Rattle.token.specs.Tokens.{Token, first_place}
 use Rattle.grammar.specs.Bars.{is_bar, deeper, bars_outside}
@@ -27,7 +27,7 @@ module _ (tok : ℕ → Token) (n i depth : ℕ) where
   on h b = let e : n - i ≡ suc (n - (i + 1)) = omega arith in rw (e, b)
 
   -- after the last token
-  pub over : n ≤ i → first_place (bars_outside code_of depth (tokens_from tok i (n - i))) ≡ Nowhere
+  pub over : n ≤ i → first_place (bars_outside code_of depth (tokens_from tok i (n - i))) ≡ None
   unfolding bars_outside tokens_from
   over h = let e : n - i ≡ 0 = omega arith in rw e
 

@@ -150,3 +150,6 @@ module _ (f : List ℕ) (a e : ℕ) where
   pub end_cr : e < length f → a < e → get_or f (e - 1) 0 ≡ byte "\r" → e - 1 ≡ line_end f a e
   unfolding line_end
   end_cr h k l = rw (lt-ltb e (length f) h, lt-ltb a e k, eq-eqb _ _ l)
+
+-- the ways together, for `line_end`
+pub ruleset line_ends = (end_no_lf, end_empty, end_no_cr, end_cr)

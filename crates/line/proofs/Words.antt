@@ -1,44 +1,78 @@
 -- Words compared by their length first, and the start of the text after a word. Assumes nothing.
 use Prim.Native.Nat.{ℕ, ◌+◌, ◌-◌, ◌≤◌, ◌<◌}
 use native.Mathlib.Omega.{arith}
-use mathlib.Core.Path.{◌≡◌, refl, sym, ◌∙◌}
-use mathlib.Core.List.{List, [], ◌∷◌}
-use mathlib.Core.Bool.{Bool, true, false}
+use mathlib.Core.Path.{◌≡◌, refl, ◌∙◌}
+use mathlib.Core.List.{List}
+use mathlib.Core.Bool.{Bool, true, false, ◌&&◌}
 use lib.ListN.{length, get_or, take, drop}
 use lib.Dec.{eqb}
-use borrow.Author.Tests.{eq-eqb, ne_eqb, eqb-false}
-use Rattle.text.specs.Bytes.{byte, pick}
+use borrow.Author.Tests.{eqb-true, eq-eqb, ne_eqb}
+use Rattle.text.specs.Bytes.{byte, bytes, pick}
 use Rattle.text.specs.Runs.{span}
-use Rattle.text.specs.Order.{equal}
 use Rattle.text.specs.declared.runs.Set.TheVariants.{Blanks, Letters}
-use Rattle.text.proofs.Laws.{unlike_lengths, inside, span_fits_at}
-use Rattle.line.specs.Directives.{Word, words, named, word_start, text_start, directive_of}
-use Rattle.line.specs.declared.Directive.TheVariants.{Plain, Unknown}
+use Rattle.text.proofs.Laws.{inside, span_fits_at}
+use Rattle.text.proofs.Compared.{has_bytes, equal_reads}
+use Rattle.line.specs.Directives.{words, named, word_start, text_start, directive_of}
+use Rattle.line.specs.declared.Directive.{Directive}
+use Rattle.line.specs.declared.Directive.TheVariants.{Plain, If, Ifdef, Ifndef, Elseif, Else, Endif, Unknown}
 
--- the words of n letters
-abbrev pub of_length : ℕ → List Word → List Word
-of_length n [] = []
-of_length n (x ∷ xs) = pick (eqb (length x.text) n) (x ∷ of_length n xs) (of_length n xs)
+-- the directive of a word of n bytes, by its bytes
+abbrev pub reads : ℕ → List ℕ → Directive
+reads n w =
+    pick (eqb n 7) (pick (has_bytes w 0 (bytes "include")) Plain Unknown)
+    (pick (eqb n 6) (pick (has_bytes w 0 (bytes "ifndef")) Ifndef (pick (has_bytes w 0 (bytes "elseif")) Elseif Unknown))
+    (pick (eqb n 5) (pick (has_bytes w 0 (bytes "ifdef")) Ifdef
+    (pick (has_bytes w 0 (bytes "endif")) Endif (pick (has_bytes w 0 (bytes "error")) Plain Unknown)))
+    (pick (eqb n 4) (pick (has_bytes w 0 (bytes "elif")) Elseif (pick (has_bytes w 0 (bytes "else")) Else Unknown))
+    (pick (eqb n 2) (pick (has_bytes w 0 (bytes "if")) If Unknown)
+    Unknown))))
+
+module _ (w : List ℕ) where
+  named_long : named words w
+      ≡ pick (eqb (length w) 2 && has_bytes w 0 (bytes "if")) If
+      (pick (eqb (length w) 5 && has_bytes w 0 (bytes "ifdef")) Ifdef
+      (pick (eqb (length w) 6 && has_bytes w 0 (bytes "ifndef")) Ifndef
+      (pick (eqb (length w) 6 && has_bytes w 0 (bytes "elseif")) Elseif
+      (pick (eqb (length w) 4 && has_bytes w 0 (bytes "elif")) Elseif
+      (pick (eqb (length w) 4 && has_bytes w 0 (bytes "else")) Else
+      (pick (eqb (length w) 5 && has_bytes w 0 (bytes "endif")) Endif
+      (pick (eqb (length w) 7 && has_bytes w 0 (bytes "include")) Plain
+      (pick (eqb (length w) 5 && has_bytes w 0 (bytes "error")) Plain Unknown))))))))
+  unfolding named
+  named_long = rw (
+    equal_reads w (bytes "if"),
+    equal_reads w (bytes "ifdef"),
+    equal_reads w (bytes "ifndef"),
+    equal_reads w (bytes "elseif"),
+    equal_reads w (bytes "elif"),
+    equal_reads w (bytes "else"),
+    equal_reads w (bytes "endif"),
+    equal_reads w (bytes "include"),
+    equal_reads w (bytes "error"),
+  )
 
 -- a word is looked up among the words of its length
-pub by_length : (xs : List Word) (w : List ℕ) (n : ℕ) → length w ≡ n → named xs w ≡ named (of_length n xs) w
-unfolding named
-by_length [] w n h = refl
-by_length (x ∷ xs) w n h = by (eqb (length x.text) n) refl (by_length xs w n h)
+pub named_reads : (w : List ℕ) → named words w ≡ reads (length w) w
+named_reads w = named_long w ∙ by (length w)
+    (eqb (length w) 2) refl (eqb (length w) 4) refl (eqb (length w) 5) refl (eqb (length w) 6) refl (eqb (length w) 7) refl
   where
-    by : (t : Bool) → eqb (length x.text) n ≡ t → named xs w ≡ named (of_length n xs) w
-        → pick (equal w x.text) x.directive (named xs w) ≡ named (pick t (x ∷ of_length n xs) (of_length n xs)) w
-    by true e i = rw i
-    by false e i = rw (unlike_lengths w x.text (λ k. eqb-false (length x.text) n e (sym k ∙ h))) i
-
--- no word has another length
-pub unknown_length : (w : List ℕ) → (length w ≡ 2 → ⊥) → (length w ≡ 4 → ⊥) → (length w ≡ 5 → ⊥) → (length w ≡ 6 → ⊥)
-    → (length w ≡ 7 → ⊥) → named words w ≡ Unknown
-unfolding named
-unknown_length w a b c d e = by_length words w (length w) refl ∙ simp (other 2 a, other 4 b, other 5 c, other 6 d, other 7 e)
-  where
-    other : (n : ℕ) → (length w ≡ n → ⊥) → eqb n (length w) ≡ false
-    other n h = ne_eqb n (length w) (λ k. h (sym k))
+    by : (n : ℕ) → (a : Bool) → eqb n 2 ≡ a → (b : Bool) → eqb n 4 ≡ b → (c : Bool) → eqb n 5 ≡ c → (d : Bool) → eqb n 6 ≡ d → (e : Bool) → eqb n 7 ≡ e
+        → pick (eqb n 2 && has_bytes w 0 (bytes "if")) If
+        (pick (eqb n 5 && has_bytes w 0 (bytes "ifdef")) Ifdef
+        (pick (eqb n 6 && has_bytes w 0 (bytes "ifndef")) Ifndef
+        (pick (eqb n 6 && has_bytes w 0 (bytes "elseif")) Elseif
+        (pick (eqb n 4 && has_bytes w 0 (bytes "elif")) Elseif
+        (pick (eqb n 4 && has_bytes w 0 (bytes "else")) Else
+        (pick (eqb n 5 && has_bytes w 0 (bytes "endif")) Endif
+        (pick (eqb n 7 && has_bytes w 0 (bytes "include")) Plain
+        (pick (eqb n 5 && has_bytes w 0 (bytes "error")) Plain Unknown))))))))
+        ≡ reads n w
+    by n true ha b hb c hc d hd e he = let l : n ≡ 2 = eqb-true _ _ ha in rw l
+    by n false ha true hb c hc d hd e he = let l : n ≡ 4 = eqb-true _ _ hb in rw l
+    by n false ha false hb true hc d hd e he = let l : n ≡ 5 = eqb-true _ _ hc in rw l
+    by n false ha false hb false hc true hd e he = let l : n ≡ 6 = eqb-true _ _ hd in rw l
+    by n false ha false hb false hc false hd true he = let l : n ≡ 7 = eqb-true _ _ he in rw l
+    by n false ha false hb false hc false hd false he = rw (ha, hb, hc, hd, he)
 
 -- a line whose first byte that is no blank is at `first`
 module _ (l : List ℕ) {first : ℕ} (at : first ≡ 0 + span Blanks l) where

@@ -1,5 +1,7 @@
 // A file cut into its lines.
-ghost use Rattle.std.specs.Prelude.{◌≡◌, ◌+◌, ◌≤◌, ◌<◌, length, drop};
+ghost use Rattle.std.specs.Prelude.{◌≡◌, ◌+◌, ◌≤◌, ◌<◌, length, drop, eqb};
+ghost use Rattle.std.specs.List.{count_by, position};
+ghost use Rattle.text.specs.Bytes.{byte};
 ghost use Rattle.text.specs.Runs.{span};
 ghost use Rattle.text.specs.declared.runs.Set.TheVariants.{NotLineFeed};
 ghost use Rattle.line.specs.Lines.{lines};
@@ -18,24 +20,24 @@ pub struct Cut {
 
 // The end of the line that starts at `from` and has its LF, or else the end of the file, at `lf`. A CR of this line directly before the LF
 // is dropped; a CR at the end of the file is kept.
-#[tactic(auto, using(crate::proofs::FirstLine::end_no_cr))]
+#[tactic(auto, using(crate::proofs::FirstLine::line_ends))]
 fn line_end(file: &[u8], from: Offset, lf: Offset) -> Offset
     requires { lf.0 ≤ length file.now }
     ensures { result.0 ≡ line_end file.now from.0 lf.0 }
 {
-    let at = lf.0;
-    if at <= from.0 {
-        return lf;
+    // the test for the end of the file is the last one, since few lines reach it
+    if from.0 < lf.0 && file[lf.0 - 1] == b'\r' && lf.0 < file.len() {
+        Offset(lf.0 - 1)
+    } else {
+        lf
     }
-    let last = at - 1;
-    if file[last] != b'\r' {
-        return lf;
-    }
-    // the last test, since few lines reach it
-    if file.len() <= at {
-        return lf;
-    }
-    Offset(last)
+}
+
+// The place of the first LF in a part of a file.
+fn first_lf(part: &[u8]) -> Option<usize>
+    ensures { result ≡ position (λ b. eqb b (byte "\n")) part.now }
+{
+    part.iter().position(|b| *b == b'\n')
 }
 
 // The place of the first LF from a byte on, or the end of the file. Eight bytes per turn, so that the cost of the loop is shared by eight.
@@ -43,35 +45,14 @@ fn lf_from(file: &[u8], from: Offset) -> Offset
     requires { from.0 ≤ length file.now }
     ensures { result.0 ≡ from.0 + span NotLineFeed (drop from.0 file.now) }
 {
-    let mut i = from.0;
-    while 8 <= file.len() - i {
-        if file[i] == b'\n' {
-            return Offset(i);
+    let mut at = from.0;
+    for eight in file[from.0..].chunks_exact(8) {
+        if let Some(k) = first_lf(eight) {
+            return Offset(at + k);
         }
-        if file[i + 1] == b'\n' {
-            return Offset(i + 1);
-        }
-        if file[i + 2] == b'\n' {
-            return Offset(i + 2);
-        }
-        if file[i + 3] == b'\n' {
-            return Offset(i + 3);
-        }
-        if file[i + 4] == b'\n' {
-            return Offset(i + 4);
-        }
-        if file[i + 5] == b'\n' {
-            return Offset(i + 5);
-        }
-        if file[i + 6] == b'\n' {
-            return Offset(i + 6);
-        }
-        if file[i + 7] == b'\n' {
-            return Offset(i + 7);
-        }
-        i += 8;
+        at += 8;
     }
-    runs::run_end(file, Offset(i), Set::NotLineFeed)
+    runs::run_end(file, Offset(at), Set::NotLineFeed)
 }
 
 // The line that starts at a byte.
@@ -87,54 +68,39 @@ pub fn next(file: &[u8], from: Offset) -> Cut
 }
 
 // Whether bytes follow the last LF.
+#[tactic(auto, using(crate::proofs::Counting::opened_some, crate::proofs::Counting::opened_none))]
 fn is_open(file: &[u8]) -> bool
     ensures { result ≡ opened file.now (length file.now) }
 {
-    let n = file.len();
-    if n == 0 {
-        return false;
-    }
-    file[n - 1] != b'\n'
+    file.last().is_some_and(|b| *b != b'\n')
 }
 
 // The number of bytes in one block: a multiple of 32, and so small that a u8 can count the LFs.
 const BLOCK: usize = 224;
 
-// The end of the block that starts at a byte.
-fn block_end(len: usize, from: Offset) -> Offset
-    requires { from.0 < len }
-    ensures { (from.0 < result.0) × (result.0 ≤ len) × (result.0 ≤ from.0 + 224) }
+// The number of LFs in a block. The loop has no early exit and a u8 as its counter, so that it vectorises with a byte per lane.
+// Stays: by `filter` and `count`, whose counter is wider, it does not vectorise and takes some forty times as long.
+fn block_lfs(block: &[u8]) -> u8
+    requires { length block.now ≤ 224 }
+    ensures { result ≡ count_by (λ b. eqb b (byte "\n")) block.now }
 {
-    let start = from.0;
-    if len - start <= BLOCK {
-        Offset(len)
-    } else {
-        Offset(start + BLOCK)
+    let mut lfs: u8 = 0;
+    for b in block {
+        if *b == b'\n' {
+            lfs += 1;
+        }
     }
+    lfs
 }
 
-// The number of lines of a file, by its LFs. The inner loop has no early exit and a u8 as its counter, so that it vectorises with a byte
-// per lane; a wider counter takes several times the instructions.
+// The number of lines of a file, by its LFs.
+#[tactic(auto, using(crate::proofs::Counting::line_count, crate::proofs::Counting::none_counted))]
 pub fn count(file: &[u8]) -> LineNumber
     ensures { result.0 ≡ length (lines file.now) }
 {
     let mut n: usize = 0;
-    let mut i: usize = 0;
-    while i < file.len() {
-        let block = block_end(file.len(), Offset(i));
-        let end = block.0;
-        let mut lfs: u8 = 0;
-        while i < end {
-            if file[i] == b'\n' {
-                lfs += 1;
-            }
-            i += 1;
-        }
-        n += lfs as usize;
+    for block in file.chunks(BLOCK) {
+        n += usize::from(block_lfs(block));
     }
-    if is_open(file) {
-        LineNumber(n + 1)
-    } else {
-        LineNumber(n)
-    }
+    LineNumber(n + usize::from(is_open(file)))
 }

@@ -4,10 +4,10 @@
 pub mod cut;
 pub mod word;
 
-use units::{Fault, Offset};
+use units::Offset;
 
 // The directive of a line by its word, or that the line is plain.
-#[derive(Clone, Copy)]
+#[derive(Clone, Copy, Debug, PartialEq, Eq)]
 pub enum Directive {
     Plain,
     If,
@@ -26,11 +26,9 @@ pub struct Head {
     pub text: Offset,
 }
 
-// The condition of a directive: it holds or fails, with the number of operators that were applied, or it is refused, with the place in the
-// text after the word or in the line. The crate `condition` evaluates it.
-#[derive(Clone, Copy)]
+// The condition of a directive: it holds or fails, with the number of operators that were applied. The crate `condition` evaluates it.
+#[derive(Clone, Copy, Debug, PartialEq, Eq)]
 pub enum Condition {
     Holds(usize),
     Fails(usize),
-    Refused(Fault),
 }

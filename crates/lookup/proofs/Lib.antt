@@ -1,3 +1,4 @@
+pub mod Numbers
 pub mod RecordUnderName
 pub mod Within
 pub mod InFront

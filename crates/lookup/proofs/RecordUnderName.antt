@@ -7,16 +7,17 @@ use mathlib.Core.List.{List, [], ◌∷◌}
 use lib.ListN.{length, get_or}
 use lib.Dec.{eqb, leb}
 use borrow.Author.Tests.{leb-true}
+use Rattle.std.specs.Prelude.{Some, None}
 use Rattle.text.specs.Bytes.{pick}
 use Rattle.text.proofs.Laws.{pick_case}
 use Rattle.text.proofs.Orders.{same_equal, differs}
 use Rattle.settings.specs.Table.{name_of, kind_byte, length_byte}
 use Rattle.halving.specs.Halving.{name_of_record}
-use Rattle.lookup.specs.Setting.{set_to, not_set, clipped, value_at, setting_under_at, record_among, Within}
+use Rattle.lookup.specs.Setting.{clipped, value_at, setting_under_at, record_among, Within}
 
 -- the first record with the name has the setting
 pub under_found : (rs : List (List ℕ)) (n : List ℕ) (at i : ℕ) → i < length rs → name_of_record rs i ≡ n → ((j : ℕ) → j < i → name_of_record rs j ≡ n → ⊥)
-    → setting_under_at at rs n ≡ set_to (value_at (at + 128 * i) (get_or rs i []))
+    → setting_under_at at rs n ≡ Some (value_at (at + 128 * i) (get_or rs i []))
 unfolding setting_under_at
 under_found [] n at i h e d = absurd (omega arith)
 under_found (r ∷ rs) n at zero h e d =
@@ -36,7 +37,7 @@ among_found (r ∷ rs) n (suc i) h e d =
     rw (differs (name_of r) n (d 0 (omega arith))) (among_found rs n i (omega arith) e (λ j l. d (suc j) (omega arith)))
 
 -- no record has the name
-pub under_none : (rs : List (List ℕ)) (n : List ℕ) (at : ℕ) → ((j : ℕ) → j < length rs → name_of_record rs j ≡ n → ⊥) → setting_under_at at rs n ≡ not_set
+pub under_none : (rs : List (List ℕ)) (n : List ℕ) (at : ℕ) → ((j : ℕ) → j < length rs → name_of_record rs j ≡ n → ⊥) → setting_under_at at rs n ≡ None
 unfolding setting_under_at
 under_none [] n at d = refl
 under_none (r ∷ rs) n at d =

@@ -3,30 +3,27 @@ ghost use Rattle.std.specs.Prelude.{◌≡◌};
 ghost use Rattle.token.specs.Tokens.{reading, ending_number};
 ghost use Rattle.marshal.specs.Calls.{dialect_of, Lists, ending_offset};
 
-use crate::{dialects, numbers};
+use crate::dialects;
 use token::scan;
-use token::scan::Ending;
+use units::{Offset, Refusal};
 
 // The refusal number of an ending, 0 if nothing was refused.
-fn number_of(ending: Ending) -> u8
+fn number_of(ending: Result<Offset, Refusal>) -> u8
     ensures { result ≡ ending_number ending }
 {
     match ending {
-        Ending::Complete(_) => 0,
-        Ending::Refused(r) => r.number,
+        Ok(_) => 0,
+        Err(refusal) => refusal.reason.into(),
     }
 }
 
 // The offset of the refusal of an ending, 0 if nothing was refused.
-fn offset_of(ending: Ending) -> usize
+fn offset_of(ending: Result<Offset, Refusal>) -> usize
     ensures { result ≡ ending_offset ending }
 {
     match ending {
-        Ending::Complete(_) => 0,
-        Ending::Refused(r) => {
-            let at = r.offset;
-            at.0
-        }
+        Ok(_) => 0,
+        Err(refusal) => refusal.offset.0,
     }
 }
 
@@ -43,17 +40,9 @@ pub fn list(
 )
     ensures { Lists (reading expr.now (dialect_of dialect)) out.old codes.old starts.old lens.old values.old out.new codes.new starts.new lens.new values.new }
 {
-    let s = scan::tokens(
-        codes,
-        starts,
-        lens,
-        values,
-        expr,
-        dialects::dialect_of(dialect),
-    );
-    let read = s.tokens;
-    let ending = s.ending;
-    let number = number_of(ending) as u64;
-    let offset = offset_of(ending) as u64;
-    numbers::store(out, number, read.0 as u64, offset);
+    let rules = dialects::dialect_of(dialect);
+    let scan = scan::tokens(codes, starts, lens, values, expr, rules);
+    let number = number_of(scan.ending);
+    let offset = offset_of(scan.ending);
+    *out = [u64::from(number), scan.tokens.0 as u64, offset as u64];
 }

@@ -1,61 +1,64 @@
 // The stack of operands. Each operator takes its operands, the first of them at `at`, and leaves its result in their place.
-ghost use Rattle.std.specs.Prelude.{◌≡◌, [], ◌+◌, ◌%◌, ◌≤◌, ◌<◌, length, get_or};
-ghost use Rattle.value.specs.Places.{Memory, over_all};
+ghost use Rattle.std.specs.Prelude.{◌≡◌, ◌+◌, ◌≤◌, ◌<◌, length, get_or};
+ghost use Rattle.value.specs.Places.{Memory as Meant};
+ghost use Rattle.value.specs.Lent.{strings_of};
 ghost use Rattle.value.specs.Attributes.{unary_from, binary_from, choice_from};
 ghost use Rattle.value.specs.Denote.{denote_attributes, denote_token};
-ghost use Rattle.operands.specs.Numbers.{operand_in};
-ghost use Rattle.operands.specs.Stack.{count_at, RecordedAt, operand_at, Leaves};
+ghost use Rattle.operands.specs.Stack.{NOTHING, count_at, RecordedAt, operand_at, Leaves};
 
-use crate::numbers;
+use lookup::Value;
 use value::forms::Token;
-use value::{Attributes, forms};
+use value::{Attributes, Kind, Strings, forms};
+
+// What fills room that no operand has taken yet.
+pub const NOTHING: Attributes = Attributes {
+    kind: Kind::Number,
+    value: Ok(Value::Number(0)),
+    count: 0,
+};
 
 // The operand at a place.
-pub fn load(waiting: &[[usize; 6]], at: usize) -> Attributes
+pub fn load(waiting: &[Attributes], at: usize) -> Attributes
     requires { at < length waiting.now }
-    ensures { result ≡ operand_in (get_or waiting.now at []) }
+    ensures { result ≡ get_or waiting.now at NOTHING }
 {
-    numbers::decode(waiting[at])
+    waiting[at]
 }
 
-pub fn store(waiting: &mut [[usize; 6]], at: usize, a: Attributes)
+// Puts an operand in a place.
+pub fn store(waiting: &mut [Attributes], at: usize, a: Attributes)
     requires { at < length waiting.old }
-    ensures { (m : Memory) → Leaves m waiting.old at (denote_attributes m a) waiting.new }
+    ensures { (m : Meant) → Leaves m waiting.old at (denote_attributes m a) waiting.new }
 {
-    waiting[at] = numbers::encode(a);
+    waiting[at] = a;
 }
 
-pub fn unary(waiting: &mut [[usize; 6]], at: usize, o: Token)
+// A unary operator takes the operand at `at`.
+pub fn unary(waiting: &mut [Attributes], at: usize, o: Token)
     requires { (at < length waiting.old) × (count_at waiting.old at ≤ 200) }
-    ensures { (m : Memory) → Leaves m waiting.old at (unary_from (denote_token o) (operand_at m waiting.old at)) waiting.new }
+    ensures { (m : Meant) → Leaves m waiting.old at (unary_from (denote_token o) (operand_at m waiting.old at)) waiting.new }
 {
-    let a = load(waiting, at);
+    let a = waiting[at];
     store(waiting, at, forms::of_unary(o, a));
 }
 
-pub fn binary<'a>(
-    waiting: &mut [[usize; 6]],
-    at: usize,
-    expr: &'a [u8],
-    own: &'a [u8],
-    table: &'a [u8],
-    o: Token,
-)
-    requires { (at + 1 < length waiting.old) × (count_at waiting.old at + count_at waiting.old (at + 1) ≤ 400) × (length own.now % 128 ≡ 0) × RecordedAt waiting.old at × RecordedAt waiting.old (at + 1) }
-    ensures { Leaves (over_all expr.now own.now table.now) waiting.old at (binary_from (denote_token o) (operand_at (over_all expr.now own.now table.now) waiting.old at) (operand_at (over_all expr.now own.now table.now) waiting.old (at + 1))) waiting.new }
+// A binary operator takes the operands at `at` and behind it.
+pub fn binary(waiting: &mut [Attributes], at: usize, s: Strings, o: Token)
+    requires { (at + 1 < length waiting.old) × (count_at waiting.old at + count_at waiting.old (at + 1) ≤ 400) × RecordedAt waiting.old at × RecordedAt waiting.old (at + 1) }
+    ensures { Leaves (strings_of s.entry) waiting.old at (binary_from (denote_token o) (operand_at (strings_of s.entry) waiting.old at) (operand_at (strings_of s.entry) waiting.old (at + 1))) waiting.new }
 {
-    let a = load(waiting, at);
-    let b = load(waiting, at + 1);
-    store(waiting, at, forms::of_binary(expr, own, table, o, a, b));
+    let a = waiting[at];
+    let b = waiting[at + 1];
+    store(waiting, at, forms::of_binary(s, o, a, b));
 }
 
-// `o` is the token of the `?`.
-pub fn choice(waiting: &mut [[usize; 6]], at: usize, o: Token)
+// A choice takes the operands at `at` and the two behind it; `o` is the token of its `?`.
+pub fn choice(waiting: &mut [Attributes], at: usize, o: Token)
     requires { (at + 2 < length waiting.old) × (count_at waiting.old at + count_at waiting.old (at + 1) + count_at waiting.old (at + 2) ≤ 600) }
-    ensures { (m : Memory) → Leaves m waiting.old at (choice_from (denote_token o) (operand_at m waiting.old at) (operand_at m waiting.old (at + 1)) (operand_at m waiting.old (at + 2))) waiting.new }
+    ensures { (m : Meant) → Leaves m waiting.old at (choice_from (denote_token o) (operand_at m waiting.old at) (operand_at m waiting.old (at + 1)) (operand_at m waiting.old (at + 2))) waiting.new }
 {
-    let c = load(waiting, at);
-    let a = load(waiting, at + 1);
-    let b = load(waiting, at + 2);
+    let c = waiting[at];
+    let a = waiting[at + 1];
+    let b = waiting[at + 2];
     store(waiting, at, forms::of_choice(o, c, a, b));
 }

@@ -1,5 +1,5 @@
 -- After the record of a setting is written, the buffer holds the settings with this one put to them. Assumes nothing.
-use Prim.Native.Nat.{ℕ, ◌+◌, ◌-◌, ◌*◌, ◌≤◌, ◌<◌}
+use Prim.Native.Nat.{ℕ, ◌+◌, ◌-◌, ◌*◌, ◌≤◌, max}
 use native.Mathlib.Omega.{arith}
 use mathlib.Core.Path.{◌≡◌, refl, sym, ap, ◌∙◌}
 use mathlib.Core.Bool.{Bool, true, false}
@@ -8,6 +8,8 @@ use lib.ListN.{length, take, drop, take-append-drop, length-take, drop_of_length
 use lib.Seq.{take_at, take-append-le, drop-append-le, drop-append-add, take-length, drop-drop}
 use borrow.Author.Tests.{lt-ltb, le-ltb}
 use borrow.Rule.Slice.PartMut.{put_mid}
+use Rattle.std.proofs.Common.{Some, None}
+use Rattle.std.proofs.lemmas.Option.{none-some, same_Some}
 use Rattle.settings.specs.Table.{records}
 use Rattle.own.specs.Own.{Own, record_of, records_of, put, has}
 use Rattle.own.specs.Index.{index_among}
@@ -76,44 +78,47 @@ module _ (x : Own) {o : List Own} {b n : List ℕ} {used i : ℕ} (few : used �
   number = h.size
 
   -- no room: the settings are 64, and none has the name
-  pub full : at ≡ 8192 → Puts x o b (record { ok = false; used = used })
+  pub full : i ≡ 64 → Puts x o b None
   full f = by (has x.name o) refl
     where
-      by : (t : Bool) → has x.name o ≡ t → Puts x o b (record { ok = false; used = used })
+      by : (t : Bool) → has x.name o ≡ t → Puts x o b None
       by true g = absurd (omega (arith, f, few, number, index_is, index_there o x.name g))
       by false g =
           record {
             room = rw (g, le-ltb (length o) 64 (omega (arith, f, index_is, index_absent o x.name g)));
-            held = h;
+            held = λ k q. absurd (none-some k q);
           }
 
   -- the name is that of a setting
-  pub put_over : at + 128 ≤ used → Puts x o written (record { ok = true; used = used })
-  put_over f = by (has x.name o) refl
-    where
-      by : (t : Bool) → has x.name o ≡ t → Puts x o written (record { ok = true; used = used })
-      by true g =
-          let inside : at + 128 ≤ length (records_of o) = omega (arith, f, number, records_length o) in
-          let size : used ≡ 128 * length (put x o) = number ∙ rw (put_length x o, g) in
-          let rest : List ℕ = drop used b in
-          record {
-            room = rw g;
-            held = rw (split rest (over_inside (records_of o) rest (record_of x) at inside)) (held_by (put x o) rest used size);
-          }
-      by false g = absurd (omega (arith, f, number, index_is, index_absent o x.name g))
+  put_over : has x.name o ≡ true → Holds written used (put x o)
+  put_over g =
+      let there = index_there o x.name g in
+      let inside : at + 128 ≤ length (records_of o) = omega (arith, number, index_is, there, records_length o) in
+      let size : used ≡ 128 * length (put x o) = number ∙ rw (put_length x o, g) in
+      let rest : List ℕ = drop used b in
+      rw (split rest (over_inside (records_of o) rest (record_of x) at inside)) (held_by (put x o) rest used size)
 
   -- the name is new
-  pub put_last : (at ≡ 8192 → ⊥) → used < at + 128 → Puts x o written (record { ok = true; used = at + 128 })
-  put_last m f = by (has x.name o) refl
+  put_last : has x.name o ≡ false → Holds written (at + 128) (put x o)
+  put_last g =
+      let last : i ≡ length o = index_is ∙ index_absent o x.name g in
+      let end : at ≡ length (records_of o) = omega (arith, last, records_length o) in
+      let size : at + 128 ≡ 128 * length (put x o) = rw (put_length x o, g) (omega (arith, last)) in
+      let rest : List ℕ = drop 128 (drop used b) in
+      rw (split rest (over_end (records_of o) (drop used b) (record_of x) at end)) (held_by (put x o) rest (at + 128) size)
+
+  -- there is room: the larger of the two ends is used then
+  pub put_there : (i ≡ 64 → ⊥) → Puts x o written (Some (max used (at + 128)))
+  put_there m = by (has x.name o) refl
     where
-      by : (t : Bool) → has x.name o ≡ t → Puts x o written (record { ok = true; used = at + 128 })
-      by true g = absurd (omega (arith, f, number, index_is, index_there o x.name g))
+      by : (t : Bool) → has x.name o ≡ t → Puts x o written (Some (max used (at + 128)))
+      by true g =
+          let end : max used (at + 128) ≡ used = omega (arith, number, index_is, index_there o x.name g) in
+          record { room = rw g; held = λ k q. rw (← same_Some _ k q, end) (put_over g) }
       by false g =
           let last : i ≡ length o = index_is ∙ index_absent o x.name g in
-          let end : at ≡ length (records_of o) = omega (arith, last, records_length o) in
-          let size : at + 128 ≡ 128 * length (put x o) = rw (put_length x o, g) (omega (arith, last)) in
-          let rest : List ℕ = drop 128 (drop used b) in
+          let end : max used (at + 128) ≡ at + 128 = omega (arith, number, last) in
           record {
             room = rw (g, lt-ltb (length o) 64 (omega (arith, m, few, number, last)));
-            held = rw (split rest (over_end (records_of o) (drop used b) (record_of x) at end)) (held_by (put x o) rest (at + 128) size);
+            held = λ k q. rw (← same_Some _ k q, end) (put_last g);
           }

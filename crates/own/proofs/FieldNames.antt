@@ -1,13 +1,15 @@
 -- The name in a name field: which name it is, by its bytes and the zero after them. Assumes nothing.
-use Prim.Native.Nat.{ℕ, zero, suc, ◌<◌}
+use Prim.Native.Nat.{ℕ, zero, suc}
 use native.Mathlib.Omega.{arith}
 use mathlib.Core.Path.{◌≡◌, refl, sym, ap, ◌∙◌}
-use mathlib.Core.Bool.{Bool, true, false, not, false≢true}
+use mathlib.Core.Bool.{Bool, true, false, not, ◌&&◌, ◌||◌, false≢true}
 use mathlib.Core.List.{List, [], ◌∷◌}
 use lib.ListN.{length, get_or, take}
 use lib.Seq.{length-take-le}
-use lib.Dec.{eqb}
-use borrow.Author.Tests.{eq-eqb, eqb-true, eqb-false}
+use lib.Dec.{eqb, leb}
+use Rattle.std.specs.List.{list_any}
+use borrow.Author.Tests.{eq-eqb, ne_eqb, eqb-true, eqb-false, leb-false}
+use Rattle.std.proofs.lemmas.Bool.Decides.{nat_tests}
 use Rattle.text.specs.Bytes.{pick}
 use Rattle.text.specs.Order.{is_equal, equal}
 use Rattle.text.specs.Runs.{holds, span}
@@ -69,22 +71,31 @@ span_to (x ∷ n) (b ∷ f) e z h = by (eqb x 0) refl h (span_to n f (cc) z)
     by true g k r = absurd (omega arith)
     by false g k r = let first : b ≡ x = cc in rw (first, g) (ap suc (r (omega arith)))
 
--- the name of a field is n, or is not, by the tests of the code
+-- no byte of a name is zero
+no_zeros : (n : List ℕ) → not (list_any (λ b. eqb b 0) n) ≡ eqb (span NonZero n) (length n)
+unfolding span
+no_zeros [] = refl
+no_zeros (b ∷ n) = by (eqb b 0) (no_zeros n)
+  where
+    by : (t : Bool) → not (list_any (λ c. eqb c 0) n) ≡ eqb (span NonZero n) (length n)
+        → not (t || list_any (λ c. eqb c 0) n) ≡ eqb (pick (not t) (suc (span NonZero n)) zero) (suc (length n))
+    by true h = sym (ne_eqb 0 (suc (length n)) (λ e. omega (arith, e)))
+    by false h = h ∙ grind (arith, nat_tests)
+
+-- the name of a field is n by the tests of the code
 module _ (f n : List ℕ) where
-  pub too_long : length f < length n → equal (unpadded f) n ≡ false
-  too_long h = differs (unpadded f) n (λ e. omega (arith, its_length f n e, span_fits NonZero f))
+  by_tests : (t u v w : Bool) → leb (length n) (length f) ≡ t → eqb (get_or f (length n) 0) 0 ≡ u → equal (take (length n) f) n ≡ v
+      → eqb (span NonZero n) (length n) ≡ w → equal (unpadded f) n ≡ (t && (u && (v && w)))
+  by_tests false u v w a b c d =
+      differs (unpadded f) n (λ e. omega (arith, leb-false (length n) (length f) a, its_length f n e, span_fits NonZero f))
+  by_tests true false v w a b c d = differs (unpadded f) n (λ e. eqb-false (get_or f (length n) 0) 0 b (zero_after f n e))
+  by_tests true true false w a b c d = differs (unpadded f) n (λ e. false≢true (sym c ∙ rw (its_bytes f n e) (ap is_equal (same_equal n))))
+  by_tests true true true false a b c d = differs (unpadded f) n (λ e. eqb-false (span NonZero n) (length n) d (no_zero f n e))
+  by_tests true true true true a b c d =
+      let bytes = equals (take (length n) f) n c in
+      rw (span_to n f bytes (eqb-true (get_or f (length n) 0) 0 b) (eqb-true (span NonZero n) (length n) d), bytes) (ap is_equal (same_equal n))
 
-  pub no_end : (get_or f (length n) 0 ≡ 0 → ⊥) → equal (unpadded f) n ≡ false
-  no_end h = differs (unpadded f) n (λ e. h (zero_after f n e))
-
-  pub other_bytes : equal (take (length n) f) n ≡ false → equal (unpadded f) n ≡ false
-  other_bytes h = differs (unpadded f) n (λ e. false≢true (sym h ∙ rw (its_bytes f n e) (ap is_equal (same_equal n))))
-
-  pub same_name : equal (take (length n) f) n ≡ true → get_or f (length n) 0 ≡ 0 → eqb (span NonZero n) (length n) ≡ equal (unpadded f) n
-  same_name h z = by (eqb (span NonZero n) (length n)) refl
-    where
-      by : (t : Bool) → eqb (span NonZero n) (length n) ≡ t → t ≡ equal (unpadded f) n
-      by true e =
-          let bytes = equals (take (length n) f) n h in
-          rw (span_to n f bytes z (eqb-true (span NonZero n) (length n) e), bytes) (sym (ap is_equal (same_equal n)))
-      by false e = sym (differs (unpadded f) n (λ g. eqb-false (span NonZero n) (length n) e (no_zero f n g)))
+  pub name_tests : equal (unpadded f) n
+      ≡ (leb (length n) (length f) && (eqb (get_or f (length n) 0) 0 && (equal (take (length n) f) n && not (list_any (λ b. eqb b 0) n))))
+  name_tests = by_tests (leb (length n) (length f)) (eqb (get_or f (length n) 0) 0) (equal (take (length n) f) n)
+      (not (list_any (λ b. eqb b 0) n)) refl refl refl (sym (no_zeros n))

@@ -1,40 +1,55 @@
--- The fields of a record, written one after the other over 128 bytes. Assumes nothing.
-use Prim.Native.Nat.{ℕ, ◌≤◌}
+-- A buffer that is filled with a string, and the fields of a record, written one after the other over 128 bytes. Assumes nothing.
+use Prim.Native.Nat.{ℕ, ◌-◌, ◌≤◌, min}
 use native.Mathlib.Omega.{arith}
-use mathlib.Core.Path.{◌≡◌, refl, ap, ◌∙◌}
-use mathlib.Core.List.{List, [], ◌++◌, append_assoc, append-nil}
-use lib.ListN.{length, drop, length-append, length-drop, drop_of_length-le}
-use lib.Seq.{length-take-le, take_at, drop_at}
+use mathlib.Core.Path.{◌≡◌, refl, sym, ap, ◌∙◌}
+use mathlib.Core.Bool.{Bool, true, false}
+use mathlib.Core.List.{List, ◌++◌, append_assoc, append-nil}
+use lib.ListN.{length, take, drop, replicate, length-append, length-drop, drop_of_length-le}
+use lib.Seq.{length-take-le, take_at, drop_at, take-append-le, take-length}
+use lib.Dec.{leb}
+use borrow.Author.Tests.{leb-true, leb-false}
 use borrow.Rule.Slice.PartMut.{mid_of, put_mid}
 use Rattle.own.specs.Own.{padded}
 use Rattle.own.proofs.Padded.{padded_length}
+use Rattle.own.proofs.RecordShape.{padded_room}
 
--- in a list of p and then q, the first k elements of q are filled with s
-filled : (l p q s m : List ℕ) (i k : ℕ) → l ≡ p ++ q → length p ≡ i → k ≤ length q → m ≡ padded (length (mid_of i k l)) s
-    → put_mid i k l m ≡ (p ++ padded k s) ++ drop k q
-filled l p q s m i k c e h f =
-    let size : length (mid_of i k (p ++ q)) ≡ k = rw (drop_at p q i e) (length-take-le k q h) in
-    let part : m ≡ padded k s = (rw c at f) ∙ ap (λ n. padded n s) size in
-    rw (c, take_at p q i e, drop_at p q i e, part, append_assoc p (padded k s) (drop k q))
+-- the first n bytes of a string, as many as have room, and then zeros
+module _ (s : List ℕ) (k n : ℕ) (e : n ≡ min (length s) k) where
+  pub filled : take n s ++ replicate (k - n) 0 ≡ padded k s
+  filled = by (leb (length s) k) refl
+    where
+      by : (t : Bool) → leb (length s) k ≡ t → take n s ++ replicate (k - n) 0 ≡ padded k s
+      by true q =
+          let short = leb-true (length s) k q in
+          let all : n ≡ length s = omega (arith, e, short) in
+          rw (all, take-length s) (sym (padded_room k s short))
+      by false q =
+          let long = leb-false (length s) k q in
+          let all : n ≡ k = omega (arith, e, long) in
+          let none : k - k ≡ 0 = omega arith in
+          rw (all, none, append-nil (take k s)) (sym (take-append-le k s (replicate k 0) (omega (arith, long))))
+
+-- k elements from i on are replaced, in a list of p with i elements and then q
+placed : (p q m : List ℕ) (i k : ℕ) → length p ≡ i → put_mid i k (p ++ q) m ≡ (p ++ m) ++ drop k q
+placed p q m i k e = rw (take_at p q i e, drop_at p q i e, append_assoc p m (drop k q))
 
 module _ (r name marks content a b c : List ℕ) (lr : length r ≡ 128) where
-  abbrev first : List ℕ
-  first = put_mid 0 64 r a
-
   abbrev second : List ℕ
-  second = put_mid 64 8 first b
+  second = put_mid 64 8 (a ++ drop 64 r) b
 
-  pub fields : a ≡ padded (length (mid_of 0 64 r)) name → b ≡ padded (length (mid_of 64 8 first)) marks → c ≡ padded (length (mid_of 72 56 second)) content
-      → put_mid 72 56 second c ≡ padded 64 name ++ (padded 8 marks ++ padded 56 content)
+  pub fields : a ≡ padded (length (take 64 r)) name → b ≡ padded (length (mid_of 64 8 (a ++ drop 64 r))) marks → c ≡ content
+      → put_mid 72 (length second - 72) second c ≡ padded 64 name ++ (padded 8 marks ++ content)
   fields f g h =
-      let n : List ℕ = padded 64 name in
-      let m : List ℕ = padded 8 marks in
       let after : List ℕ = drop 8 (drop 64 r) in
       let end : length after ≡ 56 = omega (arith, length-drop 8 (drop 64 r), length-drop 64 r) in
+      let named : a ≡ padded 64 name = f ∙ ap (λ k. padded k name) (length-take-le 64 r (omega arith)) in
+      let first : length a ≡ 64 = ap length named ∙ padded_length 64 name in
+      let room : length (mid_of 64 8 (a ++ drop 64 r)) ≡ 8 =
+      rw (drop_at a (drop 64 r) 64 first) (length-take-le 8 (drop 64 r) (omega (arith, length-drop 64 r))) in
+      let marked : b ≡ padded 8 marks = g ∙ ap (λ k. padded k marks) room in
+      let both : length (a ++ b) ≡ 72 = omega (arith, length-append a b, first, ap length marked, padded_length 8 marks) in
+      let two : second ≡ (a ++ b) ++ after = placed a (drop 64 r) b 64 8 first in
+      let last : length second - 72 ≡ 56 = omega (arith, ap length two, length-append (a ++ b) after, both, end) in
       let over : length after ≤ 56 = omega arith in
-      let named : length n ≡ 64 = padded_length 64 name in
-      let marked : length (n ++ m) ≡ 72 = omega (arith, length-append n m, named, padded_length 8 marks) in
-      let one = filled r [] r name a 0 64 refl refl (omega arith) f in
-      let two = filled first n (drop 64 r) marks b 64 8 one named (omega (arith, length-drop 64 r)) g in
-      let three = filled second (n ++ m) after content c 72 56 two marked (omega arith) h in
-      three ∙ rw (drop_of_length-le after over) (append-nil _ ∙ append_assoc n m (padded 56 content))
+      rw (last, two, placed (a ++ b) after c 72 56 both, drop_of_length-le after over, append-nil ((a ++ b) ++ c), append_assoc a b c)
+      (rw (named, marked, h) refl)

@@ -1,9 +1,10 @@
 pub mod FieldNames
 pub mod Index
 pub mod Padded
+pub mod RecordShape
 pub mod Fields
 pub mod Records
 pub mod Putting
 pub mod BufferHolds
-pub mod RecordShape
 pub mod OwnNames
+pub mod NumberBytes

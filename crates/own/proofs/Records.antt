@@ -1,14 +1,14 @@
 -- The records of settings, one after the other: their lengths, and that they are the first records of the scope. Assumes nothing.
-use Prim.Native.Nat.{ℕ, suc, ◌*◌, ◌/◌}
+use Prim.Native.Nat.{ℕ, ◌*◌}
 use native.Mathlib.Omega.{arith}
-use mathlib.Core.Path.{◌≡◌, refl, sym, ap, ◌∙◌}
+use mathlib.Core.Path.{◌≡◌, refl, ◌∙◌}
 use mathlib.Core.List.{List, [], ◌∷◌, ◌++◌, map, append_assoc}
 use lib.ListN.{length, length-append}
-use lib.Seq.{take_at, drop_at}
 use Rattle.settings.specs.Table.{records_in, records}
+use Rattle.settings.proofs.TableRecords.{records_more}
 use Rattle.own.specs.Own.{Own, padded, record_of, records_of, scope}
 use Rattle.own.specs.Putting.{IsSetting}
-use Rattle.own.proofs.Padded.{padded_length, padded_all}
+use Rattle.own.proofs.Padded.{padded_length}
 
 -- a record has 128 bytes
 pub record_length : (x : Own) → length (record_of x) ≡ 128
@@ -28,11 +28,9 @@ record_length x =
 
 -- the record of a setting by its fields
 pub setting_record : (x : Own) (n : List ℕ) (k l : ℕ) (c : List ℕ) → IsSetting x n k l c
-    → padded 64 n ++ (padded 8 (k ∷ l ∷ []) ++ padded 56 c) ≡ record_of x
+    → padded 64 n ++ (padded 8 (k ∷ l ∷ []) ++ c) ≡ record_of x
 unfolding record_of
-setting_record x n k l c s =
-    let whole : padded 56 c ≡ c = padded_all 56 c (ap length (sym s.its_content) ∙ padded_length 56 x.content) in
-    rw (whole, ← s.its_content, ← s.its_name, ← s.its_kind, ← s.its_length)
+setting_record x n k l c s = rw (← s.its_content, ← s.its_name, ← s.its_kind, ← s.its_length)
 
 pub records_length : (o : List Own) → length (records_of o) ≡ 128 * length o
 unfolding records_of
@@ -41,10 +39,7 @@ records_length (x ∷ o) = omega (arith, length-append (record_of x) (records_of
 
 -- a record in front is the first of the records
 first_record : (x : Own) (s : List ℕ) → records (record_of x ++ s) ≡ record_of x ∷ records s
-unfolding records_in
-first_record x s =
-    let e : length (record_of x ++ s) / 128 ≡ suc (length s / 128) = omega (arith, length-append (record_of x) s, record_length x) in
-    rw (e, take_at (record_of x) s 128 (record_length x), drop_at (record_of x) s 128 (record_length x))
+first_record x s = records_more (record_of x) s (record_length x)
 
 pub own_records : (o : List Own) → records (records_of o) ≡ map record_of o
 unfolding records_in records_of

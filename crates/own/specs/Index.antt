@@ -1,5 +1,5 @@
 -- The place of the record under a name among records. Contracts between layers cite this; no promise does.
-use Rattle.std.specs.Prelude.{ℕ, suc, List, [], ◌∷◌}
+use Rattle.std.specs.Prelude.{ℕ, suc, List, [], ◌∷◌, length, ltb, Option, Some, None}
 use Rattle.text.specs.Bytes.{pick}
 use Rattle.text.specs.Order.{equal}
 use Rattle.settings.specs.Table.{name_of}
@@ -8,3 +8,7 @@ use Rattle.settings.specs.Table.{name_of}
 unfoldable pub index_among : List (List ℕ) → (n : List ℕ) → ℕ
 index_among [] n = 0
 index_among (r ∷ rs) n = pick (equal (name_of r) n) 0 (suc (index_among rs n))
+
+-- the same, if one of the records has the name
+abbrev pub place_among : List (List ℕ) → (n : List ℕ) → Option ℕ
+place_among rs n = pick (ltb (index_among rs n) (length rs)) (Some (index_among rs n)) None

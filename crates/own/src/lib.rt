@@ -1,146 +1,103 @@
 // The settings that the lines of a file make, as records in front of the table.
 #![tactic(auto)]
 
-ghost use Rattle.std.specs.Prelude.{◌≡◌, false, List, [], ◌∷◌, ◌++◌, ◌≤◌, length};
+ghost use Rattle.std.specs.Prelude.{◌≡◌, List, [], ◌∷◌, ◌++◌, ◌≤◌, length, None, MatchOption};
 ghost use Rattle.text.specs.Order.{equal};
 ghost use Rattle.text.specs.Numbers.{lowest_bytes};
-ghost use Rattle.settings.specs.Table.{unpadded, records};
+ghost use Rattle.settings.specs.Table.{name_of, records};
 ghost use Rattle.own.specs.Own.{Own, padded};
-ghost use Rattle.own.specs.Index.{index_among};
+ghost use Rattle.own.specs.Index.{place_among};
 ghost use Rattle.own.specs.Putting.{Holds, IsSetting, Puts};
 
-use text::runs::Set;
-use text::{bytes, order, runs};
+use text::{bytes, order};
 use units::Offset;
 
-// Whether the name in a name field is this one. Where the field's name ends is checked first, then the bytes from the end.
-fn has_name(field: &[u8], name: &[u8]) -> bool
-    ensures { result ≡ equal (unpadded field.now) name.now }
-{
-    let n = name.len();
-    if field.len() < n {
-        return false;
-    }
-    if bytes::byte_at(field, Offset(n)) != 0 {
-        return false;
-    }
-    if !order::is_equal(&field[..n], name) {
-        return false;
-    }
-    runs::run_end(name, Offset(0), Set::NonZero).0 == n
+// The largest number of settings.
+const MAX_OWN: usize = 64;
+
+// What a record holds beside its name.
+#[derive(Clone, Copy)]
+pub struct Content {
+    pub kind: u8,
+    pub len: u8,
+    pub bytes: [u8; 56],
 }
 
-// The index of the first record with a name, the number of records if there is none. Bytes after the last whole record are no record.
-pub fn index_of(own: &[u8], name: &[u8]) -> usize
-    ensures { result ≡ index_among (records own.now) name.now }
+// Whether this is the name of a record. Where the name in the record ends is checked before its bytes.
+#[tactic(auto, using(crate::proofs::FieldNames::name_tests))]
+fn has_name(r: &[u8], name: &[u8]) -> bool
+    requires { length r.now ≡ 128 }
+    ensures { result ≡ equal (name_of r.now) name.now }
 {
-    let count = own.len() / 128;
-    let mut i = 0;
-    while i < count {
-        let at = 128 * i;
-        let end = at + 64;
-        if has_name(&own[at..end], name) {
-            return i;
-        }
-        i += 1;
-    }
-    i
+    let field = &r[..64];
+    let n = name.len();
+    n <= field.len()
+        && bytes::byte_at(field, Offset(n)) == 0
+        && order::is_equal(&field[..n], name)
+        && !name.contains(&0)
+}
+
+// The index of the first record with a name. Bytes after the last whole record are no record.
+pub fn index_of(own: &[u8], name: &[u8]) -> Option<usize>
+    ensures { result ≡ place_among (records own.now) name.now }
+{
+    own.chunks_exact(128).position(|r| has_name(r, name))
 }
 
 // Fills a buffer with the bytes of a string and then zeros. Bytes without room are left out.
+#[tactic(auto, using(crate::proofs::Fields::filled))]
 fn fill(buffer: &mut [u8], s: &[u8])
     ensures { buffer.new ≡ padded (length buffer.old) s.now }
 {
-    let mut i = 0;
-    while i < buffer.len() {
-        buffer[i] = bytes::byte_at(s, Offset(i));
-        i += 1;
-    }
+    let (front, rest) = buffer.split_at_mut(s.len().min(buffer.len()));
+    front.copy_from_slice(&s[..front.len()]);
+    rest.fill(0);
 }
 
 // Writes the fields of a record over 128 bytes.
-fn fill_record(r: &mut [u8], name: &[u8], kind: u8, len: u8, content: &[u8; 56])
+fn fill_record(r: &mut [u8], name: &[u8], content: &Content)
     requires { length r.old ≡ 128 }
-    ensures { r.new ≡ padded 64 name.now ++ (padded 8 (kind ∷ len ∷ []) ++ padded 56 content.now) }
+    ensures { r.new ≡ padded 64 name.now ++ (padded 8 (content.now.kind ∷ content.now.len ∷ []) ++ content.now.bytes) }
 {
-    let marks = [kind, len];
-    fill(&mut r[0..64], name);
-    fill(&mut r[64..72], &marks);
-    fill(&mut r[72..128], content);
+    fill(&mut r[..64], name);
+    fill(&mut r[64..72], &[content.kind, content.len]);
+    r[72..].copy_from_slice(&content.bytes);
 }
 
-// Whether there was room for a setting, and how many bytes of the buffer are used then.
-#[derive(Clone, Copy)]
-pub struct Filled {
-    pub ok: bool,
-    pub used: usize,
-}
-
-// What `put` does, over a slice, of which parts can be lent.
-fn put_in(own: &mut [u8], used: usize, name: &[u8], kind: u8, len: u8, content: &[u8; 56]) -> Filled
-    requires { (length own.old ≡ 8192) × (used ≤ 8192) }
-    ensures used_bound { (result.used ≤ 8192) × (length own.new ≡ 8192) }
-    ensures puts { (x : Own) (o : List Own) → IsSetting x name.now kind len content.now → Holds own.old used o → Puts x o own.new result }
-    ensures unchanged { result.ok ≡ false → own.new ≡ own.old }
-{
-    let at = 128 * index_of(&own[..used], name);
-    if at == 8192 {
-        return Filled {
-            ok: false,
-            used: used,
-        };
-    }
-    let end = at + 128;
-    fill_record(&mut own[at..end], name, kind, len, content);
-    if end <= used {
-        return Filled {
-            ok: true,
-            used: used,
-        };
-    }
-    Filled {
-        ok: true,
-        used: end,
-    }
-}
-
-// Puts a setting into the buffer, over the one with its name, or else after the last if there is room.
-pub fn put(
-    own: &mut [u8; 8192],
-    used: usize,
-    name: &[u8],
-    kind: u8,
-    len: u8,
-    content: &[u8; 56],
-) -> Filled
+// Puts a setting into the buffer, over the one with its name, or else after the last if there is room: how many bytes of the buffer are used
+// then.
+// Stays: `Running` of the crate progress, which is repr(C), holds the number of used bytes, and its caller lends the buffer beside it.
+#[tactic(auto, using(crate::proofs::Index::index_within))]
+pub fn put(own: &mut [u8; 8192], used: usize, name: &[u8], content: &Content) -> Option<usize>
     requires { used ≤ 8192 }
-    ensures used_bound { (result.used ≤ 8192) × (length own.new ≡ 8192) }
-    ensures puts { (x : Own) (o : List Own) → IsSetting x name.now kind len content.now → Holds own.old used o → Puts x o own.new result }
-    ensures unchanged { result.ok ≡ false → own.new ≡ own.old }
+    ensures used_bound { MatchOption result Unit (λ n. n ≤ 8192) }
+    ensures length { length own.new ≡ 8192 }
+    ensures puts { (x : Own) (o : List Own) → IsSetting x name.now content.now.kind content.now.len content.now.bytes → Holds own.old used o → Puts x o own.new result }
+    ensures unchanged { result ≡ None → own.new ≡ own.old }
 {
-    put_in(own, used, name, kind, len, content)
+    let i = index_of(&own[..used], name).unwrap_or(used / 128);
+    if i == MAX_OWN {
+        return None;
+    }
+    let at = 128 * i;
+    let end = at + 128;
+    fill_record(&mut own[at..end], name, content);
+    Some(used.max(end))
 }
 
 // The content of a record with a number.
+#[tactic(auto, using(crate::proofs::NumberBytes::bytes_lowest))]
 pub fn number_content(x: u64) -> [u8; 56]
     ensures { result ≡ padded 56 (lowest_bytes 8 x) }
 {
-    let mut content = [0u8; 56];
-    let mut rest = x;
-    let mut i = 0;
-    while i < 8 {
-        content[i] = (rest % 256) as u8;
-        rest = rest / 256;
-        i += 1;
-    }
-    content
+    text_content(&x.to_le_bytes())
 }
 
 // The content of a record with a string. Bytes without room are left out.
 pub fn text_content(s: &[u8]) -> [u8; 56]
     ensures { result ≡ padded 56 s.now }
 {
-    let mut content = [0u8; 56];
+    let mut content = [0; 56];
     fill(&mut content, s);
     content
 }

@@ -13,6 +13,7 @@ use units::Offset;
 
 // The lines so far: the selection after them, how many bytes and lines they were, whether the last had no LF (0 if it had one), and how
 // many bytes of the settings are used. The settings that DEFINE lines made are in a buffer beside it.
+// Stays: C keeps this struct between the calls, with a number for whether the last line had an LF and with the buffer beside it.
 #[repr(C)]
 #[derive(Clone, Copy)]
 pub struct Running {
@@ -37,7 +38,7 @@ fn clipped(limit: usize, n: usize) -> usize
     ensures value { result ≡ clip limit n }
     ensures upper_bound { result ≤ limit }
 {
-    if limit < n { limit } else { n }
+    n.min(limit)
 }
 
 // A running selection with no number above its limit.
@@ -48,68 +49,48 @@ pub fn read(x: Running) -> Running
     let fed = clipped(MAX_LINES, x.fed);
     let depth = clipped(MAX_GROUPS, s.depth);
     let count = clipped(MAX_COUNT * fed, s.count);
-    let bytes = clipped(MAX_FILE, x.bytes);
-    let lines = s.lines;
     Running {
-        selection: Selection {
-            depth,
-            count,
-            states: s.states,
-            lines,
-        },
-        bytes,
+        selection: Selection { depth, count, ..s },
+        bytes: clipped(MAX_FILE, x.bytes),
         fed,
-        ended: x.ended,
-        used: x.used,
+        ..x
     }
 }
 
 // Whether the name in a name field is that of a macro.
+#[tactic(auto, using(text::proofs::Laws::span_fits, own::proofs::FieldNames::unpadded_length))]
 fn has_macro_name(field: &[u8]) -> bool
     ensures { result ≡ eqb (macro_name (unpadded field.now)) (length (unpadded field.now)) }
 {
-    let end = runs::run_end(field, Offset(0), Set::NonZero);
-    let n = end.0;
-    names::macro_name(&field[0..n]) == n
+    let (name, _) = field.split_at(runs::run_end(field, Offset(0), Set::NonZero).0);
+    names::macro_name(name) == name.len()
 }
 
 // Whether a record is one that a DEFINE line can make.
+#[tactic(auto, unfolding(crate::specs::Reading::is_setting))]
 fn is_setting(r: &[u8]) -> bool
     requires { length r.now ≡ 128 }
     ensures { result ≡ is_setting r.now }
 {
-    settings::is_well_formed(r) && has_macro_name(&r[0..64])
+    settings::is_well_formed(r) && has_macro_name(&r[..64])
 }
 
 // Whether every record is one that a DEFINE line can make.
 fn are_settings(b: &[u8]) -> bool
     ensures { result ≡ are_settings (records b.now) }
 {
-    let mut at = 0;
-    while 128 <= b.len() - at {
-        let next = at + 128;
-        if !is_setting(&b[at..next]) {
-            return false;
-        }
-        at = next;
-    }
-    true
+    b.chunks_exact(128).all(|r| is_setting(r))
 }
 
 // How many bytes of a buffer hold settings, if this many are said to: that many, or none.
+#[tactic(auto, unfolding(crate::specs::Reading::used_of))]
 pub fn used_of(b: &[u8; 8192], used: usize) -> usize
     ensures value { result ≡ used_of used b.now }
     ensures b_len { length b.now ≡ 8192 }
 {
-    let all = &b[..];
-    if used % 128 != 0 {
-        return 0;
+    if used % 128 == 0 && used <= b.len() && are_settings(&b[..used]) {
+        used
+    } else {
+        0
     }
-    if 8192 < used {
-        return 0;
-    }
-    if !are_settings(&all[0..used]) {
-        return 0;
-    }
-    used
 }

@@ -1,5 +1,6 @@
 -- The reading of an expression is what the relation `Scanned` says, and nothing else is: by induction on the bytes that are left, and on the
 -- relation. Assumes nothing.
+use Rattle.std.specs.Prelude.{Err, Ok, Result}
 use Prim.Native.Nat.{ℕ, zero, suc, ◌+◌, ◌≤◌, ◌<◌}
 use native.Mathlib.Omega.{arith}
 use mathlib.Core.Path.{◌≡◌, refl, sym, ◌∙◌}
@@ -9,17 +10,18 @@ use lib.ListN.{length, get_or, drop, length-drop}
 use lib.Dec.{eqb, ltb}
 use borrow.Author.Tests.{ltb-true, ltb-false, eqb-true}
 use Rattle.units.specs.declared.Dialect.{Dialect}
+use Rattle.units.specs.declared.Offset.{Offset}
+use Rattle.units.specs.declared.Reason.{Reason}
+use Rattle.units.specs.declared.Refusal.{Refusal}
 use Rattle.text.specs.Bytes.{byte, initial, digit, quote, blank, operator, class_of}
 use Rattle.text.proofs.Laws.{pick_case}
 use Rattle.text.specs.declared.bytes.Class.TheVariants.{Blank, Comment}
 use Rattle.codes.specs.Levels.{is_equality}
-use Rattle.codes.specs.declared.Scanned.{Scanned as Lexed}
-use Rattle.codes.specs.declared.Scanned.TheVariants.{Found, Refused as Unread}
+use Rattle.codes.specs.declared.Lexeme.{Lexeme}
 use Rattle.lexeme.specs.Lexeme.{lexeme}
 use Rattle.lexeme.proofs.Within.{Within, lexeme_in}
 use Rattle.token.specs.Tokens.{MAX_TOKENS, Token, Reading, read_from}
 use Rattle.token.specs.Steps.{Starts as OfClass}
-use Rattle.token.specs.declared.scan.Ending.{Ending}
 use Rattle.token.proofs.Reading.{at_end as reads_end, at_blank as reads-blank, at_comment as reads-comment, at_full, at_wrong, at_found}
 use Rattle.scanned.specs.Scanned.{Starts, Scanned, at_end, at_comment, at_blank, too_many, unreadable, token}
 
@@ -57,12 +59,13 @@ module _ (e : List ℕ) (δ : Dialect) where
 
   -- one step
   module _ (left n at : ℕ) (after : Bool) (h : length e ≤ at + suc left) (ih : AllRead left) where
-    by_token : (room : ℕ) (x : Lexed) → n + room ≡ 200 → Starts e at → lexeme after (drop at e) δ ≡ x → Within (drop at e) x → Reads n room at after
+    by_token : (room : ℕ) (x : Result Lexeme Reason) → n + room ≡ 200 → Starts e at → lexeme after (drop at e) δ ≡ x → Within (drop at e) x
+        → Reads n room at after
     by_token zero x k s w i =
         rw (at_full e at after δ s.inside _ refl (class_other _ s.no_blank s.no_comment)) (too_many {n = n} s (omega arith))
-    by_token (suc room) (Unread r) k s w i =
+    by_token (suc room) (Err r) k s w i =
         rw (at_wrong e at after δ s.inside _ refl (class_other _ s.no_blank s.no_comment) room r w) (unreadable {n = n} s (omega arith) w)
-    by_token (suc room) (Found f) k s w i =
+    by_token (suc room) (Ok f) k s w i =
         let ends : at + f.len ≤ length e = omega (arith, i.1, s.inside, length-drop at e) in
         rw (at_found e at after δ s.inside _ refl (class_other _ s.no_blank s.no_comment) room f w i.0 ends)
         (token {n = n} s (omega arith) w (ih (n + 1) room (at + f.len) (is_equality f.code) ends (omega (arith, i.0)) (omega arith)))
@@ -88,7 +91,7 @@ module _ (e : List ℕ) (δ : Dialect) where
   reading_scanned = all_read (length e) 0 200 0 false (omega arith) (omega arith) refl
 
   -- the reading from byte `at` on after n tokens, if it is scanned so
-  read_as : {n at : ℕ} {after : Bool} {ts : List Token} {x : Ending} → Scanned e δ n at after ts x → (room : ℕ) → n + room ≡ 200
+  read_as : {n at : ℕ} {after : Bool} {ts : List Token} {x : Result Offset Refusal} → Scanned e δ n at after ts x → (room : ℕ) → n + room ≡ 200
       → read_from at room 0 after (drop at e) δ ≡ record { tokens = ts; ending = x }
   read_as {n} {at} {after} (at_end h) room k = reads_end e at room after δ (omega arith)
   read_as {n} {at} {after} (at_comment i q) room k = reads-comment e at after δ i _ refl room (class_comment _ q)
@@ -100,11 +103,12 @@ module _ (e : List ℕ) (δ : Dialect) where
       at_wrong e at after δ s.inside _ refl (class_other _ s.no_blank s.no_comment) room r w
   read_as {n} {at} {after} (token s h w d) zero k = absurd (omega arith)
   read_as {n} {at} {after} (token {f = f} s h w d) (suc room) k =
-      let i : Within (drop at e) (Found f) = rw w at (lexeme_in after (drop at e) δ) in
+      let i : Within (drop at e) (Ok f) = rw w at (lexeme_in after (drop at e) δ) in
       let ends : at + f.len ≤ length e = omega (arith, i.1, s.inside, length-drop at e) in
       at_found e at after δ s.inside _ refl (class_other _ s.no_blank s.no_comment) room f w i.0 ends
       ∙ rw (read_as d room (omega arith))
 
   -- nothing else is scanned
-  pub scanned_reading : {ts : List Token} {x : Ending} → Scanned e δ 0 0 false ts x → read_from 0 MAX_TOKENS 0 false e δ ≡ record { tokens = ts; ending = x }
+  pub scanned_reading : {ts : List Token} {x : Result Offset Refusal} → Scanned e δ 0 0 false ts x
+      → read_from 0 MAX_TOKENS 0 false e δ ≡ record { tokens = ts; ending = x }
   scanned_reading d = read_as d 200 refl

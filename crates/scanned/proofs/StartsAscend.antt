@@ -1,5 +1,6 @@
 -- Of two tokens of an expression the later one starts at or after the end of the earlier one: so the first of some tokens is the leftmost.
 -- By induction on `Scanned`. Assumes nothing.
+use Rattle.std.specs.Prelude.{Result}
 use Prim.Native.Nat.{ℕ, ◌+◌, ◌≤◌}
 use native.Mathlib.Omega.{arith}
 use mathlib.Core.Path.{◌≡◌, ap, sym}
@@ -8,9 +9,10 @@ use mathlib.Core.List.{List, [], ◌∷◌, ◌++◌}
 use lib.ListN.{length, length-append}
 use lib.Dec.{ltb}
 use Rattle.units.specs.declared.Dialect.{Dialect}
+use Rattle.units.specs.declared.Offset.{Offset}
+use Rattle.units.specs.declared.Refusal.{Refusal}
 use Rattle.text.proofs.Laws.{pick_case}
 use Rattle.token.specs.Tokens.{MAX_BYTES, Token, Reading, reading}
-use Rattle.token.specs.declared.scan.Ending.{Ending}
 use Rattle.scanned.specs.Scanned.{Scanned, at_end, at_comment, at_blank, too_many, unreadable, token}
 use Rattle.scanned.proofs.ReadingScanned.{reading_scanned}
 
@@ -25,7 +27,7 @@ tails q = cc
 
 module _ {e : List ℕ} {δ : Dialect} where
   -- every token that is read from byte `at` on starts there or after it
-  after : {n at : ℕ} {q : Bool} {ts : List Token} {x : Ending} → Scanned e δ n at q ts x → (us vs : List Token) (b : Token)
+  after : {n at : ℕ} {q : Bool} {ts : List Token} {x : Result Offset Refusal} → Scanned e δ n at q ts x → (us vs : List Token) (b : Token)
       → ts ≡ us ++ (b ∷ vs)
       → at ≤ b.start
   after (at_end h) us vs b q = absurd (none us vs b q)
@@ -36,7 +38,7 @@ module _ {e : List ℕ} {δ : Dialect} where
   after (token s h w d) [] vs b q = omega (arith, ap (λ (t : Token). t.start) (heads q))
   after (token s h w d) (u ∷ us) vs b q = omega (arith, after d us vs b (tails q))
 
-  ascend : {n at : ℕ} {q : Bool} {ts : List Token} {x : Ending} → Scanned e δ n at q ts x → (us vs ws : List Token) (a b : Token)
+  ascend : {n at : ℕ} {q : Bool} {ts : List Token} {x : Result Offset Refusal} → Scanned e δ n at q ts x → (us vs ws : List Token) (a b : Token)
       → ts ≡ us ++ (a ∷ (vs ++ (b ∷ ws)))
       → a.start + a.len ≤ b.start
   ascend (at_end h) us vs ws a b q = absurd (none us _ a q)

@@ -1,5 +1,6 @@
 -- The parentheses are too deep at a byte exactly if the first token with which the tokens are over 16 starts there, and this token is an
 -- opening parenthesis: by induction on the tokens. Assumes nothing.
+use Rattle.std.specs.Prelude.{None, Option, Some}
 use Prim.Native.Nat.{ℕ, zero, suc, ◌+◌, ◌≤◌, ◌<◌}
 use native.Mathlib.Omega.{arith}
 use mathlib.Core.Path.{◌≡◌, refl, sym, ap}
@@ -9,8 +10,7 @@ use lib.ListN.{length, get_or, take}
 use lib.Dec.{eqb, ltb}
 use borrow.Author.Tests.{ltb-true, ltb-false, lt-ltb, eqb-true}
 use Rattle.units.specs.Leftmost.{there}
-use Rattle.units.specs.declared.Where.{Where}
-use Rattle.units.specs.declared.Where.TheVariants.{Nowhere, At}
+use Rattle.units.specs.declared.Offset.{Offset}
 use Rattle.text.specs.Bytes.{pick}
 use Rattle.text.proofs.Laws.{pick_case}
 use Rattle.codes.specs.Codes.{OPEN, CLOSE}
@@ -49,15 +49,15 @@ module _ (a c : ℕ) (t : Token) (ts : List Token) (o : ℕ) (h : a ≤ c + 16) 
       before zero i q = omega arith
       before (suc j) i q = r.not_before j (omega arith) (omega arith)
 
-abbrev place_of : Where → ℕ
-place_of Nowhere = 0
-place_of (At o) = o.0
+abbrev place_of : Option Offset → ℕ
+place_of None = 0
+place_of (Some o) = o.0
 
 first : (a c : ℕ) (ts : List Token) (o : ℕ) → a ≤ c + 16 → too_deep a c ts ≡ there o → FirstFrom a c ts o
 unfolding too_deep
 first a c [] o h = λ e. let z : ◌≡◌ {A = ℕ} 0 1 = cc in absurd (omega arith)
 first a c (t ∷ ts) o h =
-    pick_case (λ (w : Where). w ≡ there o → FirstFrom a c (t ∷ ts) o) (ltb (with CLOSE t c + 16) (with OPEN t a))
+    pick_case (λ (w : Option Offset). w ≡ there o → FirstFrom a c (t ∷ ts) o) (ltb (with CLOSE t c + 16) (with OPEN t a))
     (λ p e. here a c t ts o h (ltb-true _ _ p) (sym (ap place_of e)))
     (λ p e. later a c t ts o h (first (with OPEN t a) (with CLOSE t c) ts o (ltb-false _ _ p) e))
 
@@ -68,7 +68,7 @@ unfolding too_deep count
 deep a c [] o i l p q n = absurd (omega arith)
 deep a c (t ∷ ts) o zero l p q n = rw (lt-ltb (with CLOSE t c + 16) (with OPEN t a) (omega arith), p)
 deep a c (t ∷ ts) o (suc i) l p q n =
-    pick_case (λ (w : Where). w ≡ there o) (ltb (with CLOSE t c + 16) (with OPEN t a))
+    pick_case (λ (w : Option Offset). w ≡ there o) (ltb (with CLOSE t c + 16) (with OPEN t a))
     (λ x. absurd (n 1 (omega arith) (omega (arith, ltb-true (with CLOSE t c + 16) (with OPEN t a) x))))
     (λ x. deep (with OPEN t a) (with CLOSE t c) ts o i (omega arith) p (omega arith) (λ j m r. n (suc j) (omega arith) (omega arith)))
 

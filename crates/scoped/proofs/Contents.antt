@@ -7,11 +7,12 @@ use mathlib.Core.List.{List, ◌++◌}
 use lib.ListN.{length, take, drop, replicate}
 use lib.Seq.{take_at, drop_at, drop-drop}
 use borrow.Author.Tests.{le-leb}
+use Rattle.std.specs.Prelude.{Some}
 use Rattle.text.specs.Numbers.{little_endian, lowest_bytes}
 use Rattle.text.proofs.EightBytes.{number_in_part}
 use Rattle.text.proofs.LowestBytes.{low_length, low_number}
 use Rattle.settings.specs.Table.{zeros, plain_kind, plain_record}
-use Rattle.lookup.specs.Setting.{set_to, value_at}
+use Rattle.lookup.specs.Setting.{value_at}
 use Rattle.lookup.specs.declared.TextKind.{TextKind}
 use Rattle.lookup.specs.declared.TextKind.TheVariants.{String, Wide}
 use Rattle.lookup.proofs.Records.{number, text, contents_in, contents_of, content_there}
@@ -43,7 +44,7 @@ module _ (x : Own) (room : length x.content ≤ 56) where
   behind : drop (72 + length x.content) (record_of x) ≡ padding
   behind = sym (drop-drop (length x.content) 72 (record_of x)) ∙ rw content_parts (drop_at x.content padding (length x.content) refl)
 
-  there : contents_of (record_of x) ≡ contents_in (record_of x) (set_to (value_at 0 (record_of x)))
+  there : contents_of (record_of x) ≡ contents_in (record_of x) (Some (value_at 0 (record_of x)))
   there = content_there (record_of x) (omega (arith, record_length x))
 
   plain_so : plain_kind x.kind (length x.content) ≡ true → plain_record (record_of x) ≡ true
@@ -55,7 +56,7 @@ module _ (x : Own) (v : ℕ) (kind : x.kind ≡ 0) (content : x.content ≡ lowe
   eight : length x.content ≡ 8
   eight = ap length content ∙ low_length 8 v
 
-  pub number_content : v < 2 ^ 64 → contents_of (record_of x) ≡ record { found = true; content = number v }
+  pub number_content : v < 2 ^ 64 → contents_of (record_of x) ≡ Some (number v)
   unfolding value_at
   number_content h =
       let s : take 8 (drop 72 (record_of x)) ≡ lowest_bytes 8 v = rw (← eight) (taken x (omega (arith, eight))) ∙ content in
@@ -68,12 +69,12 @@ module _ (x : Own) (v : ℕ) (kind : x.kind ≡ 0) (content : x.content ≡ lowe
 
 -- a string of either kind with at most 56 bytes
 module _ (x : Own) (k : TextKind) (kind : x.kind ≡ text_byte k) (room : length x.content ≤ 56) where
-  pub text_content : contents_of (record_of x) ≡ record { found = true; content = text k x.content }
+  pub text_content : contents_of (record_of x) ≡ Some (text k x.content)
   unfolding value_at
   text_content = there x room ∙ by k kind
     where
       by : (k : TextKind) → x.kind ≡ text_byte k
-          → contents_in (record_of x) (set_to (value_at 0 (record_of x))) ≡ record { found = true; content = text k x.content }
+          → contents_in (record_of x) (Some (value_at 0 (record_of x))) ≡ Some (text k x.content)
       by String e = rw (kind_part x ∙ e, length_part x, le-leb (length x.content) 56 room, taken x room)
       by Wide e = rw (kind_part x ∙ e, length_part x, le-leb (length x.content) 56 room, taken x room)
 

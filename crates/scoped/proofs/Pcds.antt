@@ -4,6 +4,7 @@ use native.Mathlib.Omega.{arith}
 use mathlib.Core.Path.{◌≡◌, refl, ◌∙◌}
 use mathlib.Core.Bool.{Bool, true, false}
 use mathlib.Core.List.{List, [], ◌∷◌}
+use Rattle.std.specs.Option.{is_some}
 use Rattle.text.specs.Bytes.{pick}
 use Rattle.text.specs.Order.{equal}
 use Rattle.text.specs.Names.{pcd_name}
@@ -29,7 +30,7 @@ has_no_pcd (x ∷ o) n h p = rw (differs (name_in x) n (unlike (name_in x) n h.0
 pub pcd_of_table : (o : List Own) (t n : List ℕ) → AllMacros o → IsPcd n → record_under (scope o t) n ≡ record_under t n
 pcd_of_table o t n h p = under_scope o t n ∙ rw (has_no_pcd o n h p)
 
-pub pcd_found : (o : List Own) (t n : List ℕ) → AllMacros o → IsPcd n → (setting_under (scope o t) n).found ≡ (setting_under t n).found
+pub pcd_found : (o : List Own) (t n : List ℕ) → AllMacros o → IsPcd n → is_some (setting_under (scope o t) n) ≡ is_some (setting_under t n)
 pcd_found o t n h p = found_scope o t n ∙ rw (has_no_pcd o n h p)
 
 -- one more setting with the name of a macro

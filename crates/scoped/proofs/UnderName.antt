@@ -4,10 +4,12 @@ use Prim.Native.Nat.{ℕ, ◌+◌}
 use mathlib.Core.Path.{◌≡◌, refl, sym, ap, ◌∙◌}
 use mathlib.Core.Bool.{Bool, true, false, ◌||◌}
 use mathlib.Core.List.{List, [], ◌∷◌, ◌++◌, map}
+use Rattle.std.specs.Prelude.{Some}
+use Rattle.std.specs.Option.{is_some}
 use Rattle.text.specs.Bytes.{pick}
 use Rattle.text.specs.Order.{equal}
 use Rattle.settings.specs.Table.{name_of, records}
-use Rattle.lookup.specs.Setting.{set_to, value_at, setting_under_at, setting_under, record_among, record_under}
+use Rattle.lookup.specs.Setting.{value_at, setting_under_at, setting_under, record_among, record_under}
 use Rattle.own.specs.Own.{Own, record_of, name_in, scope, has}
 use Rattle.own.proofs.Records.{scope_records}
 
@@ -38,33 +40,33 @@ pub same_scope : (o : List Own) (t₁ t₂ n : List ℕ) → record_under t₁ n
 same_scope o t₁ t₂ n e = under_scope o t₁ n ∙ rw e (sym (under_scope o t₂ n))
 
 -- whether a name is set does not depend on the place of the records
-found_anywhere : (rs : List (List ℕ)) (n : List ℕ) (at at' : ℕ) → (setting_under_at at rs n).found ≡ (setting_under_at at' rs n).found
+found_anywhere : (rs : List (List ℕ)) (n : List ℕ) (at at' : ℕ) → is_some (setting_under_at at rs n) ≡ is_some (setting_under_at at' rs n)
 unfolding setting_under_at
 found_anywhere [] n at at' = refl
 found_anywhere (r ∷ rs) n at at' = by (equal (name_of r) n) (found_anywhere rs n (at + 128) (at' + 128))
   where
-    by : (e : Bool) → (setting_under_at (at + 128) rs n).found ≡ (setting_under_at (at' + 128) rs n).found
-        → (pick e (set_to (value_at at r)) (setting_under_at (at + 128) rs n)).found
-        ≡ (pick e (set_to (value_at at' r)) (setting_under_at (at' + 128) rs n)).found
+    by : (e : Bool) → is_some (setting_under_at (at + 128) rs n) ≡ is_some (setting_under_at (at' + 128) rs n)
+        → is_some (pick e (Some (value_at at r)) (setting_under_at (at + 128) rs n))
+        ≡ is_some (pick e (Some (value_at at' r)) (setting_under_at (at' + 128) rs n))
     by true ih = refl
     by false ih = ih
 
 found_among : (o : List Own) (rs : List (List ℕ)) (n : List ℕ) (at at' : ℕ)
-    → (setting_under_at at (map record_of o ++ rs) n).found ≡ (has n o || (setting_under_at at' rs n).found)
+    → is_some (setting_under_at at (map record_of o ++ rs) n) ≡ (has n o || is_some (setting_under_at at' rs n))
 unfolding setting_under_at has
 found_among [] rs n at at' = found_anywhere rs n at at'
 found_among (x ∷ o) rs n at at' = by (equal (name_in x) n) (found_among o rs n (at + 128) at')
   where
-    by : (e : Bool) → (setting_under_at (at + 128) (map record_of o ++ rs) n).found ≡ (has n o || (setting_under_at at' rs n).found)
-        → (pick e (set_to (value_at at (record_of x))) (setting_under_at (at + 128) (map record_of o ++ rs) n)).found
-        ≡ ((e || has n o) || (setting_under_at at' rs n).found)
+    by : (e : Bool) → is_some (setting_under_at (at + 128) (map record_of o ++ rs) n) ≡ (has n o || is_some (setting_under_at at' rs n))
+        → is_some (pick e (Some (value_at at (record_of x))) (setting_under_at (at + 128) (map record_of o ++ rs) n))
+        ≡ ((e || has n o) || is_some (setting_under_at at' rs n))
     by true ih = refl
     by false ih = ih
 
 -- a name is set if one of the settings has it, or the table
-pub found_scope : (o : List Own) (t n : List ℕ) → (setting_under (scope o t) n).found ≡ (has n o || (setting_under t n).found)
+pub found_scope : (o : List Own) (t n : List ℕ) → is_some (setting_under (scope o t) n) ≡ (has n o || is_some (setting_under t n))
 unfolding setting_under
-found_scope o t n = ap (λ rs. (setting_under_at 0 rs n).found) (scope_records o t) ∙ found_among o (records t) n 0 0
+found_scope o t n = ap (λ rs. is_some (setting_under_at 0 rs n)) (scope_records o t) ∙ found_among o (records t) n 0 0
 
-pub found_own : (o : List Own) (t n : List ℕ) → has n o ≡ true → (setting_under (scope o t) n).found ≡ true
+pub found_own : (o : List Own) (t n : List ℕ) → has n o ≡ true → is_some (setting_under (scope o t) n) ≡ true
 found_own o t n h = found_scope o t n ∙ rw h

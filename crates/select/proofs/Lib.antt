@@ -1,8 +1,6 @@
 pub mod RunInvariant
 pub mod Steps
 pub mod Marks
-pub mod Filled
-pub mod FinishCorrect
 pub mod RunBounds
 pub mod LimitsCorrect
 pub mod SelectCorrect

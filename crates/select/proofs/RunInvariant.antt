@@ -4,12 +4,14 @@ use Prim.Native.Nat.{ℕ, ◌+◌, ◌-◌, ◌*◌, ◌^◌, ◌≤◌, ◌<◌
 use native.Mathlib.Omega.{arith}
 use native.Mathlib.Numerals.{add-one}
 use mathlib.Core.Path.{◌≡◌, refl, sym, ap, ◌∙◌}
-use mathlib.Core.Bool.{true, false, false≢true}
+use mathlib.Core.Bool.{true, false}
 use mathlib.Core.List.{List, [], ◌∷◌, ◌++◌, append_assoc}
 use lib.ListN.{length, get_or, take, drop, set, length-append, length-drop, drop_of_length-le}
 use lib.Seq.{drop-cons, set_at, length-take-le}
+use Rattle.std.specs.Prelude.{Ok, Err}
 use Rattle.units.specs.declared.Dialect.{Dialect}
 use Rattle.units.specs.declared.Fault.{Fault}
+use Rattle.units.specs.declared.Reason.TheVariants.{FileUnfinished}
 use Rattle.units.specs.Refusals.{unplaced}
 use Rattle.own.specs.Own.{Own, put}
 use Rattle.own.specs.Putting.{Holds}
@@ -28,9 +30,8 @@ use Rattle.groups.specs.Stack.{groups_of, denote_selection, Represents, Meets}
 use Rattle.groups.specs.declared.Selection.{Selection}
 use Rattle.groups.specs.declared.Step.{Step}
 use Rattle.select.specs.Step.{defines, step}
-use Rattle.select.specs.Select.{Result, accepted, refused, prepend, at_end, after, run, start}
+use Rattle.select.specs.Select.{Result, Answer, accepted, refused, prepend, at_end, after, run, start}
 use Rattle.select.specs.Running.{ends, Runs, MarksPlain, counted_more}
-use Rattle.select.specs.declared.Answer.{Answer}
 use Rattle.select.proofs.Steps.{step_small, short_step, plain_step, defined_step, same_own}
 
 -- the marks of the lines so far before the result of the others
@@ -138,43 +139,42 @@ module _ {f t : List ℕ} {δ : Dialect} {marks₀ : List ℕ} {x : Selection} {
           }
 
       -- by the code's step, for a line that sets no macro
-      module _ (z : Step) (meets : Meets x z (step t (n + 1) now_at line δ)) where
-        pub goes_on : (length line ≤ 1024 → defines now_at line ≡ false) → z.ok ≡ true
-            → Underway f t δ marks₀ z.next b used r.after.0 (n + 1) (set marks n z.mark)
-        goes_on other h = by (step t (n + 1) now_at line δ) refl meets
+      module _ (z : Step) (meets : Meets (Ok z) (step t (n + 1) now_at line δ)) where
+        pub goes_on : (length line ≤ 1024 → defines now_at line ≡ false) → Underway f t δ marks₀ z.next b used r.after.0 (n + 1) (set marks n z.mark)
+        goes_on other = by (step t (n + 1) now_at line δ) refl meets
           where
-            by : (o : Outcome) → step t (n + 1) now_at line δ ≡ o → Meets x z o
+            by : (o : Outcome) → step t (n + 1) now_at line δ ≡ o → Meets (Ok z) o
                 → Underway f t δ marks₀ z.next b used r.after.0 (n + 1) (set marks n z.mark)
-            by (stop e) q k = absurd (false≢true (sym k.0 ∙ h))
+            by (stop e) q k = absurd k
             by (go m s) q k =
                 let short = short_step t δ (n + 1) now_at line (go m s) q (λ e. let z : ◌≡◌ {A = ℕ} 0 1 = cc in omega arith) in
                 let kept = same_own t δ (n + 1) now_at line (other short) m s q in
-                let there : denote_selection z.next u.own ≡ s = ap (denote_selection z.next) (sym kept) ∙ k.2.means in
-                goes_to z.mark z.next u.own b used (q ∙ rw (k.1, there)) k.2.shallow u.held
+                let there : denote_selection z.next u.own ≡ s = ap (denote_selection z.next) (sym kept) ∙ k.1.means in
+                goes_to z.mark z.next u.own b used (q ∙ rw (k.0, there)) k.1.shallow u.held
 
       -- by what the code does with a line that sets a macro
-      module _ (z : Defined) (c : List ℕ) (short : length line ≤ 1024) (defining : defines now_at line ≡ true)
-          (does : Does (definition_of u.own t line δ) u.own c z) where
-        pub defines_on : z.ok ≡ true → Underway f t δ marks₀ (counted_more x z.count) c z.used r.after.0 (n + 1) (set marks n DEFINED)
-        defines_on h = by (definition_of u.own t line δ) refl does
-          where
-            by : (d : Definition) → definition_of u.own t line δ ≡ d → Does d u.own c z
-                → Underway f t δ marks₀ (counted_more x z.count) c z.used r.after.0 (n + 1) (set marks n DEFINED)
-            by (fails e) q k = absurd (false≢true (sym k.0 ∙ h))
-            by (sets y j) q k =
-                goes_to DEFINED (counted_more x z.count) (put y u.own) c z.used
-                (defined_step t δ (n + 1) now_at line short defining ∙ rw (q, k.1)) u.shallow k.2
+      module _ (c : List ℕ) (short : length line ≤ 1024) (defining : defines now_at line ≡ true) where
+        module _ (z : Defined) (does : Does (definition_of u.own t line δ) u.own c (Ok z)) where
+          pub defines_on : Underway f t δ marks₀ (counted_more x z.count) c z.used r.after.0 (n + 1) (set marks n DEFINED)
+          defines_on = by (definition_of u.own t line δ) refl does
+            where
+              by : (d : Definition) → definition_of u.own t line δ ≡ d → Does d u.own c (Ok z)
+                  → Underway f t δ marks₀ (counted_more x z.count) c z.used r.after.0 (n + 1) (set marks n DEFINED)
+              by (fails e) q k = absurd k
+              by (sets y j) q k =
+                  goes_to DEFINED (counted_more x z.count) (put y u.own) c z.used
+                  (defined_step t δ (n + 1) now_at line short defining ∙ rw (q, k.0)) u.shallow k.1
 
-        -- few operators were applied
-        pub defines_few : z.ok ≡ true → z.count < 200
-        defines_few h = does_few (definition_of u.own t line δ) u.own c z (definition_small u.own t line δ) does h
+          -- few operators were applied
+          pub defines_few : z.count < 200
+          defines_few = does_few (definition_of u.own t line δ) u.own c z (definition_small u.own t line δ) does
 
-        pub defines_not : z.ok ≡ false → run t 1 start (lines f) δ ≡ refused z.fault (n + 1)
-        defines_not h = by (definition_of u.own t line δ) refl does
+        pub defines_not : (e : Fault) → Does (definition_of u.own t line δ) u.own c (Err e) → run t 1 start (lines f) δ ≡ refused e (n + 1)
+        defines_not e does = by (definition_of u.own t line δ) refl does
           where
-            by : (d : Definition) → definition_of u.own t line δ ≡ d → Does d u.own c z → run t 1 start (lines f) δ ≡ refused z.fault (n + 1)
-            by (sets y j) q k = absurd (false≢true (sym h ∙ k.0))
-            by (fails e) q k = stops_with z.fault (defined_step t δ (n + 1) now_at line short defining ∙ rw (q, k.1))
+            by : (d : Definition) → definition_of u.own t line δ ≡ d → Does d u.own c (Err e) → run t 1 start (lines f) δ ≡ refused e (n + 1)
+            by (sets y j) q k = absurd k
+            by (fails g) q k = stops_with e (defined_step t δ (n + 1) now_at line short defining ∙ rw (q, k))
 
       -- a plain line that sets no macro and is not too long needs no step: its mark is that of plain lines in this state
       pub passes_plain : (mark : ℕ) → MarksPlain x mark → length line ≤ 1024 → directive_of line ≡ Plain → defines now_at line ≡ false
@@ -182,12 +182,12 @@ module _ {f t : List ℕ} {δ : Dialect} {marks₀ : List ℕ} {x : Selection} {
       passes_plain mark kept short plain other =
           goes_to mark x u.own b used (plain_step t δ (n + 1) now_at line short other plain ∙ rw kept) u.shallow u.held
 
-    pub stops : (z : Step) → Meets x z (step t (n + 1) now_at line δ) → z.ok ≡ false → run t 1 start (lines f) δ ≡ refused z.fault (n + 1)
-    stops z meets h = by (step t (n + 1) now_at line δ) refl meets
+    pub stops : (e : Fault) → Meets (Err e) (step t (n + 1) now_at line δ) → run t 1 start (lines f) δ ≡ refused e (n + 1)
+    stops e meets = by (step t (n + 1) now_at line δ) refl meets
       where
-        by : (o : Outcome) → step t (n + 1) now_at line δ ≡ o → Meets x z o → run t 1 start (lines f) δ ≡ refused z.fault (n + 1)
-        by (go m s) q k = absurd (false≢true (sym h ∙ k.0))
-        by (stop e) q k = stops_with z.fault (q ∙ rw k.1)
+        by : (o : Outcome) → step t (n + 1) now_at line δ ≡ o → Meets (Err e) o → run t 1 start (lines f) δ ≡ refused e (n + 1)
+        by (go m s) q k = absurd k
+        by (stop g) q k = stops_with e (q ∙ rw k)
 
     -- the line has this many bytes
     pub line_long : length line ≡ r.end.0 - at
@@ -214,5 +214,6 @@ module _ {f t : List ℕ} {δ : Dialect} {marks₀ : List ℕ} {x : Selection} {
               marked = λ ms c q. let p : u.done ≡ ms = cc in u.stored ∙ rw (← u.as_many, p);
             }
         by (a ∷ gs) g =
-            let w : run t 1 start (lines f) δ ≡ refused (unplaced 21) a.line = ended ∙ rw g (prepended_refused u.done (unplaced 21) a.line) in
+            let w : run t 1 start (lines f) δ ≡ refused (unplaced FileUnfinished) a.line =
+            ended ∙ rw g (prepended_refused u.done (unplaced FileUnfinished) a.line) in
             record { answer = e ∙ rw (g, w); marked = λ ms c q. let i : ◌≡◌ {A = ℕ} 0 1 = cc in absurd (omega arith) }

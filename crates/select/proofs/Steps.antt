@@ -9,9 +9,10 @@ use mathlib.Core.List.{List}
 use lib.ListN.{length}
 use lib.Dec.{ltb}
 use borrow.Author.Tests.{lt-ltb, le-ltb, ltb-true, ltb-false}
+use Rattle.std.specs.Prelude.{Result, Ok, Err}
 use Rattle.units.specs.declared.Dialect.{Dialect}
 use Rattle.units.specs.declared.Fault.{Fault}
-use Rattle.units.specs.Refusals.{LINE_LONG, unplaced}
+use Rattle.units.specs.Refusals.{unplaced}
 use Rattle.text.proofs.Laws.{pick_case}
 use Rattle.own.specs.Own.{scope}
 use Rattle.line.specs.Directives.{is_define, directive_of, text_start, text_of}
@@ -30,21 +31,27 @@ use Rattle.groups.specs.Stack.{groups_of, Suits}
 use Rattle.groups.specs.declared.Selection.{Selection}
 use Rattle.groups.specs.declared.Innermost.{Innermost}
 use Rattle.groups.specs.declared.Transition.{Transition}
-use Rattle.groups.specs.declared.Transition.TheVariants.{Stay, Push, Replace, Pop, Refuse}
+use Rattle.groups.specs.declared.Transition.TheVariants.{Stay, Push, Replace, Pop}
 use Rattle.groups.specs.declared.Plan.{Plan}
 use Rattle.groups.specs.declared.Plan.TheVariants.{Read, Unread}
 use Rattle.groups.proofs.Stacks.{same_depth}
-use Rattle.groups.proofs.Plans.{Above, Below, Suitable, suitable, Shows, applied_shows}
+use Rattle.groups.proofs.Plans.{Above, Below, Suitable, SuitsIf, suitable, Shows, applied_shows}
 use Rattle.select.specs.Step.{planned, decided, defines, defined, step}
+use Rattle.units.specs.declared.Reason.TheVariants.{LineLong}
 
 -- a directive that is read is not plain
-pub other_read : (d : Directive) (v : Innermost) → plan d v ≡ Read → d ≡ Plain → ⊥
+pub other_read : (d : Directive) (v : Innermost) → plan d v ≡ Ok Read → d ≡ Plain → ⊥
 unfolding plan
-other_read d v h e = let k : plan Plain v ≡ Read = rw e at h in let z : ◌≡◌ {A = ℕ} 0 1 = cc in omega arith
+other_read d v h e = let k : plan Plain v ≡ Ok Read = rw e at h in let z : ◌≡◌ {A = ℕ} 0 1 = cc in omega arith
+
+-- an outcome that is a refusal
+abbrev pub Stops : Outcome → Type 0
+Stops (go m s') = ⊥
+Stops (stop x) = Unit
 
 module _ (t : List ℕ) (δ : Dialect) (n : ℕ) (s : State) (l : List ℕ) where
   -- the condition of the line, over the table and the settings so far, and what it says if it is a DEFINE line
-  abbrev pub said : Condition
+  abbrev pub said : Result Condition Fault
   said = condition_of (scope s.own t) (directive_of l) l δ
 
   abbrev pub told : Definition
@@ -54,7 +61,7 @@ module _ (t : List ℕ) (δ : Dialect) (n : ℕ) (s : State) (l : List ℕ) wher
   said_small = rw (same_count (text_start l) (evaluate (scope s.own t) (directive_of l) (text_of l) δ))
       (count_small (scope s.own t) (directive_of l) (text_of l) δ)
 
-  pub long_step : 1024 < length l → step t n s l δ ≡ stop (unplaced LINE_LONG)
+  pub long_step : 1024 < length l → step t n s l δ ≡ stop (unplaced LineLong)
   unfolding step
   long_step h = rw (lt-ltb 1024 (length l) h)
 
@@ -76,7 +83,7 @@ module _ (t : List ℕ) (δ : Dialect) (n : ℕ) (s : State) (l : List ℕ) wher
       by false e = rw e
 
   -- by the plan of its directive
-  pub planned_step : (p : Plan) → length l ≤ 1024 → defines s l ≡ false → plan (directive_of l) (innermost s.groups) ≡ p
+  pub planned_step : (p : Result Plan Fault) → length l ≤ 1024 → defines s l ≡ false → plan (directive_of l) (innermost s.groups) ≡ p
       → step t n s l δ ≡ planned p (directive_of l) said n s
   planned_step p h f e = decided_step h f ∙ rw e
 
@@ -86,7 +93,7 @@ module _ (t : List ℕ) (δ : Dialect) (n : ℕ) (s : State) (l : List ℕ) wher
   plain_step h f e = decided_step h f ∙ rw (e, add-zero s.count)
 
   -- a line with any other outcome is not too long
-  pub short_step : (o : Outcome) → step t n s l δ ≡ o → (o ≡ stop (unplaced LINE_LONG) → ⊥) → length l ≤ 1024
+  pub short_step : (o : Outcome) → step t n s l δ ≡ o → (o ≡ stop (unplaced LineLong) → ⊥) → length l ≤ 1024
   short_step o e h = by (ltb 1024 (length l)) refl
     where
       by : (b : Bool) → ltb 1024 (length l) ≡ b → length l ≤ 1024
@@ -94,23 +101,26 @@ module _ (t : List ℕ) (δ : Dialect) (n : ℕ) (s : State) (l : List ℕ) wher
       by false q = ltb-false 1024 (length l) q
 
   -- the mark and the count of a step, by the plan of its directive
-  abbrev pub Marked : Plan → Outcome → Type 0
-  Marked Read o = Shows Above (s.count + count_of said) o
-  Marked (Unread r) o = Shows Below (s.count + 0) o
+  abbrev pub Marked : Result Plan Fault → Outcome → Type 0
+  Marked (Ok Read) o = Shows Above (s.count + count_of said) o
+  Marked (Ok (Unread r)) o = Shows Below (s.count + 0) o
+  Marked (Err f) o = Stops o
 
-  planned_marked : (p : Plan) → Suitable (directive_of l) (innermost s.groups) p → Marked p (planned p (directive_of l) said n s)
-  planned_marked Read h = applied_shows Above (conclude (directive_of l) (innermost s.groups) said) n (count_of said) s (h said).marks
-  planned_marked (Unread r) h = applied_shows Below r n 0 s h.marks
+  planned_marked : (p : Result Plan Fault) → Suitable (directive_of l) (innermost s.groups) p → Marked p (planned p (directive_of l) said n s)
+  planned_marked (Ok Read) h = applied_shows Above (conclude (directive_of l) (innermost s.groups) said) n (count_of said) s (h said).marks
+  planned_marked (Ok (Unread r)) h = applied_shows Below (Ok r) n 0 s h.marks
+  planned_marked (Err f) h = tt
 
-  stop_marked : (p : Plan) (x : Fault) → Marked p (stop x)
-  stop_marked Read x = tt
-  stop_marked (Unread r) x = tt
+  stop_marked : (p : Result Plan Fault) (x : Fault) → Marked p (stop x)
+  stop_marked (Ok Read) x = tt
+  stop_marked (Ok (Unread r)) x = tt
+  stop_marked (Err f) x = tt
 
   pub step_marked : defines s l ≡ false → Marked (plan (directive_of l) (innermost s.groups)) (step t n s l δ)
   unfolding step
   step_marked f =
-      let p : Plan = plan (directive_of l) (innermost s.groups) in
-      pick_case (Marked p) (ltb 1024 (length l)) (λ _. stop_marked p (unplaced LINE_LONG))
+      let p : Result Plan Fault = plan (directive_of l) (innermost s.groups) in
+      pick_case (Marked p) (ltb 1024 (length l)) (λ _. stop_marked p (unplaced LineLong))
       (λ _. rw f (planned_marked p (suitable (directive_of l) (innermost s.groups))))
 
   -- a line that sets a macro has the mark 6, and its count is small
@@ -132,16 +142,17 @@ module _ (t : List ℕ) (δ : Dialect) (n : ℕ) (s : State) (l : List ℕ) wher
   OwnAs (go m s') = s'.own ≡ s.own
   OwnAs (stop x) = Unit
 
-  applied_own : (r : Transition) (k : ℕ) → OwnAs (applied r n k s)
-  applied_own (Stay m) k = refl
-  applied_own (Push m f) k = refl
-  applied_own (Replace m f) k = refl
-  applied_own (Pop m) k = refl
-  applied_own (Refuse f) k = tt
+  applied_own : (r : Result Transition Fault) (k : ℕ) → OwnAs (applied r n k s)
+  applied_own (Ok (Stay m)) k = refl
+  applied_own (Ok (Push m f)) k = refl
+  applied_own (Ok (Replace m f)) k = refl
+  applied_own (Ok (Pop m)) k = refl
+  applied_own (Err f) k = tt
 
-  planned_own : (p : Plan) → OwnAs (planned p (directive_of l) said n s)
-  planned_own Read = applied_own (conclude (directive_of l) (innermost s.groups) said) (count_of said)
-  planned_own (Unread r) = applied_own r 0
+  planned_own : (p : Result Plan Fault) → OwnAs (planned p (directive_of l) said n s)
+  planned_own (Ok Read) = applied_own (conclude (directive_of l) (innermost s.groups) said) (count_of said)
+  planned_own (Ok (Unread r)) = applied_own (Ok r) 0
+  planned_own (Err f) = tt
 
   step_own : defines s l ≡ false → OwnAs (step t n s l δ)
   unfolding step
@@ -154,29 +165,31 @@ module _ (t : List ℕ) (δ : Dialect) (n : ℕ) (s : State) (l : List ℕ) wher
   pub step_small : (m : ℕ) (s' : State) → step t n s l δ ≡ go m s' → s'.count < s.count + 200
   step_small m s' e = which (defines s l) refl
     where
-      by : (p : Plan) → Marked p (go m s') → s'.count < s.count + 200
-      by Read h = omega (arith, h.1, said_small)
-      by (Unread r) h = omega (arith, h.1)
+      by : (p : Result Plan Fault) → Marked p (go m s') → s'.count < s.count + 200
+      by (Ok Read) h = omega (arith, h.1, said_small)
+      by (Ok (Unread r)) h = omega (arith, h.1)
+      by (Err f) h = absurd h
 
       which : (b : Bool) → defines s l ≡ b → s'.count < s.count + 200
       which true f = let h : Defines (go m s') = rw e at (step_defines f) in h.2
       which false f = by (plan (directive_of l) (innermost s.groups)) (rw e at (step_marked f))
 
 -- the code's plan of a directive, from its selection x, suits the number of open groups
-module _ (x : Selection) (d : Directive) (v : Innermost) (asked : v ≡ innermost (groups_of x)) (p : Plan) (planned-so : p ≡ plan d v) where
+module _ (x : Selection) (d : Directive) (v : Innermost) (asked : v ≡ innermost (groups_of x)) where
   depth_asked : v.depth ≡ x.depth
   depth_asked = ap (λ (i : Innermost). i.depth) asked ∙ same_depth x.depth x.states x.lines
 
-  pub unread_suits : (r : Transition) → p ≡ Unread r → Suits r x.depth
+  pub unread_suits : (r : Transition) → Ok (Unread r) ≡ plan d v → Suits r x.depth
   unread_suits r h =
-      let z : Suitable d v (Unread r) = rw (sym planned-so ∙ h) at (suitable d v) in
+      let z : Suitable d v (Ok (Unread r)) = rw (← h) at (suitable d v) in
       subst (Suits r) depth_asked z.suits
 
-  pub read_suits : (r : Transition) (c : Condition) → p ≡ Read → r ≡ conclude d v c → Suits r x.depth
+  pub read_suits : (r : Transition) (c : Result Condition Fault) → Ok Read ≡ plan d v → Ok r ≡ conclude d v c → Suits r x.depth
   read_suits r c h e =
-      let z : Suitable d v Read = rw (sym planned-so ∙ h) at (suitable d v) in
-      subst (Suits r) depth_asked (rw e (z c).suits)
+      let z : Suitable d v (Ok Read) = rw (← h) at (suitable d v) in
+      let k : SuitsIf (Ok r) v.depth = rw (← e) at (z c).suits in
+      subst (Suits r) depth_asked k
 
   -- the plan of the line
-  pub line_planned : (l : List ℕ) (q : Plan) → d ≡ directive_of l → p ≡ q → plan (directive_of l) (innermost (groups_of x)) ≡ q
-  line_planned l q e h = rw (← e, ← asked) (sym planned-so ∙ h)
+  pub line_planned : (l : List ℕ) (q : Result Plan Fault) → d ≡ directive_of l → q ≡ plan d v → plan (directive_of l) (innermost (groups_of x)) ≡ q
+  line_planned l q e h = rw (← e, ← asked) (sym h)

@@ -1,21 +1,21 @@
 -- Parts of a run. Contracts of private functions cite this; no promise about a selection does.
-use Rattle.std.specs.Prelude.{ℕ, ◌+◌, ◌≤◌, ◌≡◌, true, List, [], ◌∷◌, ◌++◌, length, drop}
+use Rattle.std.specs.Prelude.{ℕ, ◌+◌, ◌≤◌, ◌≡◌, true, List, [], ◌∷◌, ◌++◌, length, drop, Result, Ok, Err}
 use Rattle.units.specs.declared.Dialect.{Dialect}
-use Rattle.units.specs.Refusals.{FILE_UNFINISHED, unplaced}
+use Rattle.units.specs.Refusals.{unplaced}
 use Rattle.settings.specs.Table.{well_formed}
 use Rattle.line.specs.Lines.{lines}
 use Rattle.groups.specs.Rules.{plain_mark}
 use Rattle.groups.specs.Groups.{Group, innermost}
 use Rattle.groups.specs.Stack.{groups_of}
 use Rattle.groups.specs.declared.Selection.{Selection}
-use Rattle.select.specs.Select.{MAX_LINES, accepted, refused, run, start, selection, answer_of}
-use Rattle.select.specs.declared.Answer.{Answer}
-use Rattle.select.specs.declared.Answer.TheVariants.{Accepted, Refused}
+use Rattle.select.specs.Select.{MAX_LINES, accepted, refused, run, start, selection, Answer, answer_of}
+use Rattle.units.specs.declared.Reason.{Reason}
+use Rattle.units.specs.declared.Reason.TheVariants.{FileUnfinished}
 
 -- the answer after n lines, with these groups open
 abbrev pub ends : (n : ℕ) → List Group → (count : ℕ) → Answer
-ends n [] c = Accepted (record { 0 = n }) c
-ends n (g ∷ gs) c = Refused (record { number = FILE_UNFINISHED; line = record { 0 = g.line }; offset = record { 0 = 0 } })
+ends n [] c = Ok (record { lines = record { 0 = n }; count = c })
+ends n (g ∷ gs) c = Err (record { reason = FileUnfinished; line = record { 0 = g.line }; offset = record { 0 = 0 } })
 
 -- the mark of a plain line, from the selection x of the code
 abbrev pub MarksPlain : (x : Selection) → (mark : ℕ) → Type 0
@@ -37,7 +37,13 @@ pub record WithinLimits (f t : List ℕ) (room : ℕ) (δ : Dialect) : Type 0 wh
   pub enough : length (lines f) ≤ room
   pub runs : selection f t room δ ≡ run t 1 start (lines f) δ
 
--- r is the number of the refusal before any line, 0 if there is none
-pub record ChecksLimits (f t : List ℕ) (room r : ℕ) (δ : Dialect) : Type 0 where
-  pub refuses : (r ≡ 0 → ⊥) → selection f t room δ ≡ refused (unplaced r) 0
-  pub passes : r ≡ 0 → WithinLimits f t room δ
+-- the refusal before any line, if there is one
+abbrev pub ChecksLimits : (f t : List ℕ) → (room : ℕ) → Result Unit Reason → Dialect → Type 0
+ChecksLimits f t room (Err k) δ = selection f t room δ ≡ refused (unplaced k) 0
+ChecksLimits f t room (Ok u) δ = WithinLimits f t room δ
+
+-- the answer of a selection, and the marks after it if it is accepted
+pub record SelectsSome (f t marks : List ℕ) (r : Answer) (marks' : List ℕ) (δ : Dialect) : Type 0 where
+  pub answer : r ≡ answer_of (selection f t (length marks) δ)
+  pub marked : (ms : List ℕ) (c : ℕ) → selection f t (length marks) δ ≡ accepted ms c → marks' ≡ ms ++ drop (length ms) marks
+  pub as_long : length marks' ≡ length marks

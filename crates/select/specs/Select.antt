@@ -1,17 +1,18 @@
 -- The selection of a file (document 01, "Lines and directives"): a mark for each line and the sum of the counts of operators, or a refusal
 -- with its line and its place there. 1, 14, 15 and 16 come before any line and have line 0; 21 comes after the last line and has the line of the innermost open
 -- `!if`.
-use Rattle.std.specs.Prelude.{ℕ, ◌+◌, ◌≡◌, List, [], ◌∷◌, ◌++◌, length, drop, replicate, ltb}
+use Rattle.std.specs.Prelude.{ℕ, ◌+◌, ◌≡◌, List, [], ◌∷◌, ◌++◌, length, drop, replicate, ltb, Result as Answered, Ok, Err}
 use Rattle.units.specs.declared.Dialect.{Dialect}
 use Rattle.units.specs.declared.Fault.{Fault}
-use Rattle.units.specs.Refusals.{TABLE_MALFORMED, FILE_LONG, LINES_MANY, MARKS_SHORT, FILE_UNFINISHED, unplaced}
+use Rattle.units.specs.declared.Refusal.{Refusal}
+use Rattle.units.specs.Refusals.{reason_number, unplaced}
 use Rattle.text.specs.Bytes.{pick}
 use Rattle.settings.specs.Table.{well_formed}
 use Rattle.line.specs.Lines.{lines}
 use Rattle.groups.specs.Groups.{Group, State, state, Outcome, go, stop}
 use Rattle.select.specs.Step.{step}
-use Rattle.select.specs.declared.Answer.{Answer}
-use Rattle.select.specs.declared.Answer.TheVariants.{Accepted, Refused}
+use Rattle.select.specs.declared.Selected.{Selected}
+use Rattle.units.specs.declared.Reason.TheVariants.{FileLong, FileUnfinished, LinesMany, MarksShort, TableMalformed}
 
 -- the largest number of bytes and of lines in a file
 abbrev pub MAX_FILE : ℕ
@@ -33,7 +34,7 @@ prepend m (refused x n) = refused x n
 -- at the end no group may be open
 abbrev pub at_end : List Group → (count : ℕ) → Result
 at_end [] c = accepted [] c
-at_end (g ∷ gs) c = refused (unplaced FILE_UNFINISHED) g.line
+at_end (g ∷ gs) c = refused (unplaced FileUnfinished) g.line
 
 -- the outcome of line n, and then the lines after it
 abbrev pub after : Outcome → (n : ℕ) → (State → Result) → Result
@@ -53,38 +54,42 @@ start = state [] 0 []
 unfoldable pub selection : (f t : List ℕ) → (room : ℕ) → Dialect → Result
 selection f t room δ =
     pick (well_formed t)
-    (pick (ltb MAX_FILE (length f)) (refused (unplaced FILE_LONG) 0)
-    (pick (ltb MAX_LINES (length (lines f))) (refused (unplaced LINES_MANY) 0)
-    (pick (ltb room (length (lines f))) (refused (unplaced MARKS_SHORT) 0)
+    (pick (ltb MAX_FILE (length f)) (refused (unplaced FileLong) 0)
+    (pick (ltb MAX_LINES (length (lines f))) (refused (unplaced LinesMany) 0)
+    (pick (ltb room (length (lines f))) (refused (unplaced MarksShort) 0)
     (run t 1 start (lines f) δ))))
-    (refused (unplaced TABLE_MALFORMED) 0)
+    (refused (unplaced TableMalformed) 0)
+
+-- what a call answers: the number of lines and the sum of counts, or the refusal
+abbrev pub Answer : Type 0
+Answer = Answered Selected Refusal
 
 -- the answer: the number of lines and the count, or the refusal
 abbrev pub answer_of : Result → Answer
-answer_of (accepted ms c) = Accepted (record { 0 = length ms }) c
-answer_of (refused x n) = Refused (record { number = x.number; line = record { 0 = n }; offset = x.at })
+answer_of (accepted ms c) = Ok (record { lines = record { 0 = length ms }; count = c })
+answer_of (refused x n) = Err (record { reason = x.reason; line = record { 0 = n }; offset = x.at })
 
 -- The parts of an answer (document 01; document 02, order 3). A refusal has its number, its line and its place there, no lines and a count of
 -- 0; an accepted selection has 0 for the refusal number, for the line and for the place.
 abbrev pub refusal_number : Answer → ℕ
-refusal_number (Accepted l c) = 0
-refusal_number (Refused r) = r.number
+refusal_number (Ok a) = 0
+refusal_number (Err r) = reason_number r.reason
 
 abbrev pub line_of : Answer → ℕ
-line_of (Accepted l c) = 0
-line_of (Refused r) = r.line.0
+line_of (Ok a) = 0
+line_of (Err r) = r.line.0
 
 abbrev pub offset_of : Answer → ℕ
-offset_of (Accepted l c) = 0
-offset_of (Refused r) = r.offset.0
+offset_of (Ok a) = 0
+offset_of (Err r) = r.offset.0
 
 abbrev pub number_of_lines : Answer → ℕ
-number_of_lines (Accepted l c) = l.0
-number_of_lines (Refused r) = 0
+number_of_lines (Ok a) = a.lines.0
+number_of_lines (Err r) = 0
 
 abbrev pub count_of : Answer → ℕ
-count_of (Accepted l c) = c
-count_of (Refused r) = 0
+count_of (Ok a) = a.count
+count_of (Err r) = 0
 
 -- the lent marks after the call: marks past the last line keep their values; after a refusal every mark is 255
 abbrev pub marks_of : (lent : List ℕ) → Result → List ℕ

@@ -4,13 +4,12 @@
 pub mod run;
 pub mod selection;
 pub mod step;
-mod uniform;
 
-use units::{LineNumber, Refusal};
+use units::LineNumber;
 
-// The number of lines and the sum of the counts of operators, or the refusal.
+// The number of lines of a file that is selected, and the sum of the counts of operators.
 #[derive(Clone, Copy)]
-pub enum Answer {
-    Accepted(LineNumber, usize),
-    Refused(Refusal),
+pub struct Selected {
+    pub lines: LineNumber,
+    pub count: usize,
 }

@@ -6,11 +6,12 @@ ghost use Rattle.groups.specs.Stack.{groups_of, Represents};
 ghost use Rattle.select.specs.Select.{start as start_of};
 ghost use Rattle.select.specs.Running.{ends, Runs};
 
-use crate::{Answer, step};
+use crate::{Selected, step};
 use define::settle;
 use groups::{Selection, rules};
 use line::{cut, word};
-use units::{Dialect, Fault, LineNumber, Offset, Refusal};
+use lookup::Settings;
+use units::{Dialect, Fault, LineNumber, Offset, Reason, Refusal};
 
 // A selection before the first line.
 fn fresh() -> Selection
@@ -24,34 +25,30 @@ fn fresh() -> Selection
     }
 }
 
-// A refusal at its place in a line.
-pub fn refused(f: Fault, line: LineNumber) -> Answer
-    ensures { result ≡ Answer.Refused (record { number = f.number; line = line; offset = f.at }) }
-{
-    let offset = f.at;
-    Answer::Refused(Refusal {
-        number: f.number,
-        line,
-        offset,
-    })
-}
-
 // The answer after the last of n lines: the selection is accepted if no group is open, else refused at the innermost open `!if`.
-pub fn finish(x: Selection, n: LineNumber) -> Answer
+pub fn finish(x: Selection, n: LineNumber) -> Result<Selected, Refusal>
     requires { x.depth ≤ 16 }
     ensures { result ≡ ends n.0 (groups_of x) x.count }
 {
     let depth = x.depth;
     if depth == 0 {
-        return Answer::Accepted(n, x.count);
+        return Ok(Selected {
+            lines: n,
+            count: x.count,
+        });
     }
     let last = depth - 1;
-    let line = x.lines[last] as usize;
-    refused(units::unplaced(units::FILE_UNFINISHED), LineNumber(line))
+    let line = LineNumber(usize::from(x.lines[last]));
+    Err(Fault::from(Reason::FileUnfinished).in_line(line))
 }
 
 // Marks the lines of a file in order, up to the first that is refused.
-pub fn run<'a>(marks: &mut [u8], file: &'a [u8], table: &'a [u8], dialect: Dialect) -> Answer
+pub fn run(
+    marks: &mut [u8],
+    file: &[u8],
+    table: &[u8],
+    dialect: Dialect,
+) -> Result<Selected, Refusal>
     requires { (ordered table.now ≡ true) × (length (lines file.now) ≤ length marks.old) × (length (lines file.now) ≤ 4096) }
     ensures { Runs file.now table.now marks.old result marks.new dialect }
 {
@@ -63,49 +60,39 @@ pub fn run<'a>(marks: &mut [u8], file: &'a [u8], table: &'a [u8], dialect: Diale
     let mut mark = rules::KEPT;
     let mut at = Offset(0);
     let mut n = LineNumber(0);
+    // Stays: a `for` over lines would be no plainer, since the place of each line comes from cutting the one before it.
     while at.0 < file.len() {
-        let c = cut::next(file, at);
-        let start = at.0;
-        let end = c.end;
-        let e = end.0;
+        let cut = cut::next(file, at);
+        let text = &file[at.0..cut.end.0];
         let i = n.0;
         let line = LineNumber(i + 1);
-        if step::is_passed(&file[start..e]) {
+        if step::is_passed(text) {
             marks[i] = mark;
-        } else if step::is_defining(mark, &file[start..e]) {
-            let z = settle::define(&mut own, used, table, &file[start..e], dialect);
-            let ok = z.ok;
-            if !ok {
-                let fault = z.fault;
-                return refused(fault, line);
-            }
+        } else if step::is_defining(mark, text) {
+            // Stays: with `map_err` and `?` the proof does not close, since what the closure gives stays out of reach there (below too).
+            let defined = match settle::define(&mut own, used, table, text, dialect) {
+                Ok(defined) => defined,
+                Err(fault) => return Err(fault.in_line(line)),
+            };
             marks[i] = rules::DEFINED;
-            used = z.used;
-            x = step::counted(x, z.count);
+            used = defined.used;
+            x = step::counted(x, defined.count);
         } else {
-            let head = word::read_head(&file[start..e]);
-            let z = step::step(
-                &own[0..used],
+            let settings = Settings {
+                own: &own[..used],
                 table,
-                line,
-                x,
-                &file[start..e],
-                head,
-                dialect,
-            );
-            let ok = z.ok;
-            if !ok {
-                let fault = z.fault;
-                return refused(fault, line);
-            }
-            marks[i] = z.mark;
-            let next = z.next;
-            x = next;
+            };
+            let head = word::read_head(text);
+            let step = match step::step(settings, line, x, text, head, dialect) {
+                Ok(step) => step,
+                Err(fault) => return Err(fault.in_line(line)),
+            };
+            marks[i] = step.mark;
+            x = step.next;
             mark = step::plain_mark(x);
         }
         n = line;
-        let after = c.after;
-        at = after;
+        at = cut.after;
     }
     finish(x, n)
 }

@@ -3,7 +3,6 @@ ghost use Rattle.std.specs.Prelude.{◌≡◌, true, false, ◌&&◌, List, ◌+
 ghost use Rattle.line.specs.Cutting.{ReadsHead};
 ghost use Rattle.line.specs.Directives.{is_define, directive_of};
 ghost use Rattle.line.specs.declared.Directive.TheVariants.{Plain};
-ghost use Rattle.lookup.specs.Setting.{Looked};
 ghost use Rattle.own.specs.Own.{Own, records_of};
 ghost use Rattle.groups.specs.Rules.{KEPT};
 ghost use Rattle.condition.specs.Conditions.{count_of};
@@ -15,19 +14,19 @@ ghost use Rattle.select.specs.Running.{MarksPlain, counted_more};
 use condition::places;
 use groups::{Plan, Selection, Step, rules, stack};
 use line::{Condition, Head, word};
-use units::{Dialect, LineNumber};
+use lookup::Settings;
+use units::{Dialect, Fault, LineNumber, Reason};
 
 // The largest number of bytes in a line, without its end.
 const MAX_LINE: usize = 1024;
 
 // The number of operators that a condition applied.
-fn count_of(c: Condition) -> usize
+fn count_of(c: Result<Condition, Fault>) -> usize
     ensures { result ≡ count_of c }
 {
     match c {
-        Condition::Holds(n) => n,
-        Condition::Fails(n) => n,
-        Condition::Refused(_) => 0,
+        Ok(Condition::Holds(n) | Condition::Fails(n)) => n,
+        Err(_) => 0,
     }
 }
 
@@ -36,10 +35,7 @@ fn count_of(c: Condition) -> usize
 pub fn is_passed(line: &[u8]) -> bool
     ensures { result ≡ true → (length line.now ≤ 1024) × (directive_of line.now ≡ Plain) × (is_define line.now ≡ false) }
 {
-    if MAX_LINE < line.len() {
-        return false;
-    }
-    word::is_other(line)
+    line.len() <= MAX_LINE && word::is_other(line)
 }
 
 // The mark of a plain line in a selection.
@@ -53,13 +49,7 @@ pub fn plain_mark(x: Selection) -> u8
 pub fn is_defining(mark: u8, line: &[u8]) -> bool
     ensures { result ≡ ((is_define line.now && eqb mark KEPT) && leb (length line.now) 1024) }
 {
-    if mark != rules::KEPT {
-        return false;
-    }
-    if MAX_LINE < line.len() {
-        return false;
-    }
-    word::is_define(line)
+    mark == rules::KEPT && line.len() <= MAX_LINE && word::is_define(line)
 }
 
 // A selection after this many more operators.
@@ -72,32 +62,31 @@ pub fn counted(x: Selection, count: usize) -> Selection
     y
 }
 
-// Line n of a file with its head, in a selection, if it sets no macro. The settings that lines before it made are in front of the table.
-pub fn step<'a>(
-    own: &'a [u8],
-    table: &'a [u8],
+// Line n of a file with its head, in a selection, if it sets no macro.
+pub fn step(
+    settings: Settings,
     n: LineNumber,
     x: Selection,
-    line: &'a [u8],
+    line: &[u8],
     head: Head,
     dialect: Dialect,
-) -> Step
-    requires { Looked own.now table.now × (n.0 < 65536) × (x.depth ≤ 16) × (x.count < 2 ^ 63) × ReadsHead line.now head × (length line.now ≤ 1024 → (is_define line.now && (innermost (groups_of x)).flags.taken) ≡ false) }
-    ensures { (o : List Own) → own.now ≡ records_of o → Meets x result (step_of table.now n.0 (denote_selection x o) line.now dialect) }
+) -> Result<Step, Fault>
+    requires { (n.0 < 65536) × (x.depth ≤ 16) × (x.count < 2 ^ 63) × ReadsHead line.now head × (length line.now ≤ 1024 → (is_define line.now && (innermost (groups_of x)).flags.taken) ≡ false) }
+    ensures { (o : List Own) → settings.entry.own.now ≡ records_of o → Meets result (step_of settings.entry.table.now n.0 (denote_selection x o) line.now dialect) }
 {
     if MAX_LINE < line.len() {
-        return stack::refused(units::unplaced(units::LINE_LONG), x);
+        return Err(Reason::LineLong.into());
     }
-    let d = head.directive;
+    let directive = head.directive;
     let s = stack::innermost(x);
-    let plan = rules::plan(d, s);
-    match plan {
-        Plan::Unread(r) => stack::apply(r, n, 0, x),
+    match rules::plan(directive, s)? {
+        Plan::Unread(transition) => Ok(stack::apply(transition, n, 0, x)),
         Plan::Read => {
-            let from = head.text;
-            let c = condition::evaluate(own, table, d, word::text(line, from), dialect);
-            let c = places::in_line(c, from);
-            stack::apply(rules::conclude(d, s, c), n, count_of(c), x)
+            let text = word::text(line, head.text);
+            let condition = condition::evaluate(settings, directive, text, dialect);
+            let condition = places::in_line(condition, head.text);
+            let transition = rules::conclude(directive, s, condition)?;
+            Ok(stack::apply(transition, n, count_of(condition), x))
         }
     }
 }

@@ -1,20 +1,22 @@
 -- The records of a table, one at a time from the front. Assumes nothing.
-use Prim.Native.Nat.{ℕ, suc, ◌+◌, ◌-◌, ◌/◌, ◌≤◌, ◌<◌}
+use Prim.Native.Nat.{ℕ, zero, suc, ◌+◌, ◌-◌, ◌/◌, ◌≤◌, ◌<◌}
 use native.Mathlib.Omega.{arith}
-use mathlib.Core.Path.{◌≡◌, refl, sym, ◌∙◌}
+use mathlib.Core.Path.{◌≡◌, refl, sym, ap, subst, ◌∙◌}
 use mathlib.Core.Bool.{Bool, true, false, ◌&&◌, ◌||◌, false≢true}
-use mathlib.Core.List.{List, [], ◌∷◌, map}
-use lib.ListN.{length, take, drop}
-use lib.Seq.{drop-drop, take-take}
+use mathlib.Core.List.{List, [], ◌∷◌, ◌++◌, map}
+use lib.ListN.{length, take, drop, length-append, length-take}
+use lib.Seq.{drop-drop, take-take, take_at, drop_at}
 use lib.Dec.{eqb, ltb, leb, lit≤}
 use borrow.Author.Tests.{ltb-true, ltb-false, eqb-true, leb-true}
+use Rattle.std.specs.List.{list_all}
+use Rattle.std.specs.declared.slice.ChunksExact.{ChunksExact}
+use Rattle.std.specs.Slice.Iter.{chunks_exact_rest, chunks_exact_size, chunks_exact_steps}
+use Rattle.std.specs.Iterator.{AlwaysYields}
+use Rattle.std.proofs.lemmas.Iterator.{YieldsList}
 use Rattle.text.specs.Bytes.{pick}
-use Rattle.text.specs.Runs.{span}
-use Rattle.text.specs.Order.{less}
-use Rattle.text.specs.declared.runs.Set.TheVariants.{NonZero}
-use Rattle.text.proofs.Laws.{part_from, part_rest}
-use Rattle.settings.specs.Records.{IsBeforeNext}
-use Rattle.settings.specs.Table.{records_in, records, name_field, kind_byte, length_byte, zeros, is_name, well_formed_name, ordered_names}
+use Rattle.text.specs.Order.{compared, less}
+use Rattle.text.proofs.Laws.{part_from}
+use Rattle.settings.specs.Table.{records_in, records, name_field, kind_byte, length_byte, zeros, well_formed_name, ordered_names}
 use Rattle.settings.specs.Table.{plain_kind, plain_record, plain_records}
 
 -- the records from byte `at` on
@@ -24,6 +26,17 @@ rest t at = records_in ((length t - at) / 128) (drop at t)
 -- at the front these are all records
 pub rest_all : (t : List ℕ) → records t ≡ rest t 0
 rest_all t = let e : length t - 0 ≡ length t = omega arith in rw e
+
+-- as `chunks_exact` goes over them: a whole record in front, or fewer bytes than a record
+pub records_more : (x t : List ℕ) → length x ≡ 128 → records (x ++ t) ≡ x ∷ records t
+unfolding records_in
+records_more x t h =
+    let e : length (x ++ t) / 128 ≡ suc (length t / 128) = omega (arith, length-append x t, h) in
+    rw (e, take_at x t 128 h, drop_at x t 128 h)
+
+pub records_none : (t : List ℕ) → length t < 128 → records t ≡ []
+unfolding records_in
+records_none t h = let e : length t / 128 ≡ 0 = omega arith in rw e
 
 module _ (t : List ℕ) (at : ℕ) where
   pub next : at + 128 ≤ length t → rest t at ≡ take 128 (drop at t) ∷ rest t (at + 128)
@@ -36,119 +49,103 @@ module _ (t : List ℕ) (at : ℕ) where
   unfolding records_in
   none h = let e : (length t - at) / 128 ≡ 0 = omega arith in rw e
 
-  -- every record is plain
-  pub plain_stops : at + 128 ≤ length t → plain_record (take (at + 128 - at) (drop at t)) ≡ false → plain_records (rest t at) ≡ false
-  unfolding plain_records
-  plain_stops h e = rw (next h, ← part_from t at 128, e)
+-- how many records there are
+pub records_length : (m : ℕ) (t : List ℕ) → length (records_in m t) ≡ m
+unfolding records_in
+records_length zero t = refl
+records_length (suc m) t = ap suc (records_length m (drop 128 t))
 
-  pub plain_goes : at + 128 ≤ length t → plain_record (take (at + 128 - at) (drop at t)) ≡ true → plain_records (rest t at) ≡
-      plain_records (rest t (at + 128))
-  unfolding plain_records
-  plain_goes h e = rw (next h, ← part_from t at 128, e)
+-- `chunks_exact(128)` yields the records
+yields_in : (n : ℕ) (s : ChunksExact ℕ) → chunks_exact_size s ≡ 128 → length (chunks_exact_rest s) / 128 ≡ n
+    → AlwaysYields chunks_exact_steps (λ r. r.now) s (records_in n (chunks_exact_rest s))
+unfolding records_in
+yields_in zero s z e = λ x j k. absurd (omega (arith, z, k.1.1, ap length k.1.0, length-append x.now (chunks_exact_rest j)))
+yields_in (suc n) s z e = (
+  λ j k. absurd (omega (arith, z, k.1.0)),
+  λ x j k.
+      let h : length x.now ≡ 128 = k.1.1 ∙ z in
+      let first : take 128 (chunks_exact_rest s) ≡ x.now = rw k.1.0 (take_at x.now (chunks_exact_rest j) 128 h) in
+      let others : drop 128 (chunks_exact_rest s) ≡ chunks_exact_rest j = rw k.1.0 (drop_at x.now (chunks_exact_rest j) 128 h) in
+      let number : length (chunks_exact_rest j) / 128 ≡ n = omega (arith, h, ap length k.1.0, length-append x.now (chunks_exact_rest j)) in
+      (sym first, rw others (yields_in n j (k.0 ∙ z) number)),
+)
 
-  pub plain_ends : length t < at + 128 → plain_records (rest t at) ≡ true
-  unfolding plain_records
-  plain_ends h = rw (none h)
+pub yields_records : {s : ChunksExact ℕ} (t : List ℕ) → chunks_exact_rest s ≡ t → chunks_exact_size s ≡ 128
+    → YieldsList chunks_exact_steps (λ r. r.now) s (records t)
+yields_records {s} t e z =
+    record {
+      runs = subst (λ (r : List ℕ). AlwaysYields chunks_exact_steps (λ r. r.now) s (records r)) e
+          (yields_in (length (chunks_exact_rest s) / 128) s z refl);
+    }
+
+-- every record is plain
+pub plain_all : (rs : List (List ℕ)) → list_all plain_record rs ≡ plain_records rs
+unfolding plain_records
+plain_all [] = refl
+plain_all (r ∷ rs) = rw (plain_all rs)
 
 module _ (t : List ℕ) (at : ℕ) where
   -- a record's name field in the table
   pub field : name_field (take 128 (drop at t)) ≡ take (at + 64 - at) (drop at t)
   field = take-take 64 128 (drop at t) (lit≤ tt) ∙ sym (part_from t at 64)
 
-  -- the name field of the record at `at`
-  abbrev name : List ℕ
-  name = take (at + 64 - at) (drop at t)
+-- names that are well formed and ascend, the first of them greater than the field b
+abbrev pub ordered_after : (b : List ℕ) → List (List ℕ) → Bool
+ordered_after b [] = true
+ordered_after b (f ∷ fs) = less b f && ordered_names (f ∷ fs)
 
-  -- no record is left
-  pub none_ordered : length t < at + 128 → ordered_names (map name_field (rest t at)) ≡ true
-  unfolding ordered_names
-  none_ordered h = rw (none t at h)
+first_name : (f : List ℕ) (fs : List (List ℕ)) → ordered_names (f ∷ fs) ≡ (well_formed_name f && ordered_after f fs)
+unfolding ordered_names
+first_name f [] = by (well_formed_name f)
+  where
+    by : (u : Bool) → u ≡ (u && true)
+    by true = refl
+    by false = refl
+first_name f (g ∷ fs) = refl
 
-  -- the last record
-  last_ordered : at + 128 ≤ length t → length t < at + 256 → ordered_names (map name_field (rest t at)) ≡ well_formed_name name
-  unfolding ordered_names
-  last_ordered h m = rw (next t at h, none t (at + 128) (omega arith), field)
+-- the name of the record in front, and the others
+pub names_more : (b x t : List ℕ) → length x ≡ 128
+    → ordered_after b (map name_field (records (x ++ t)))
+    ≡ (less b (take 64 x) && (well_formed_name (take 64 x) && ordered_after (take 64 x) (map name_field (records t))))
+names_more b x t h = rw (records_more x t h, first_name (take 64 x) (map name_field (records t)))
 
-module _ (t : List ℕ) (at : ℕ) (h : at + 256 ≤ length t) where
-  two : map name_field (rest t at) ≡ name t at ∷ name t (at + 128) ∷ map name_field (rest t (at + 128 + 128))
-  two = rw (next t at (omega arith), next t (at + 128) (omega arith), field t at, field t (at + 128))
+pub names_end : (b t : List ℕ) → length t < 128 → ordered_after b (map name_field (records t)) ≡ true
+names_end b t h = rw (records_none t h)
 
-  one : map name_field (rest t (at + 128)) ≡ name t (at + 128) ∷ map name_field (rest t (at + 128 + 128))
-  one = rw (next t (at + 128) (omega arith), field t (at + 128))
+-- the empty list is less than a name field
+less_field : (f : List ℕ) → 0 < length f → less [] f ≡ true
+unfolding compared
+less_field [] h = absurd (omega arith)
+less_field (b ∷ f) h = refl
 
-  -- a record with one after it
-  inner_ordered : ordered_names (map name_field (rest t at))
-      ≡ (well_formed_name (name t at) && (less (name t at) (name t (at + 128)) && ordered_names (map name_field (rest t (at + 128)))))
-  unfolding ordered_names
-  inner_ordered = rw (two, one)
+-- so at the front of a table nothing is asked of the first name
+pub names_all : (t : List ℕ) → ordered_after [] (map name_field (records t)) ≡ ordered_names (map name_field (records t))
+unfolding ordered_names
+names_all t = by (ltb (length t) 128) refl
+  where
+    by : (b : Bool) → ltb (length t) 128 ≡ b → ordered_after [] (map name_field (records t)) ≡ ordered_names (map name_field (records t))
+    by true h = rw (records_none t (ltb-true (length t) 128 h))
+    by false h =
+        let whole = ltb-false (length t) 128 h in
+        let size : length (take 64 (take 128 t)) ≡ 64 = omega (arith, length-take 64 (take 128 t), length-take 128 t, whole) in
+        rw (rest_all t ∙ next t 0 (omega arith), less_field (take 64 (take 128 t)) (omega (arith, size)))
 
--- one record: its name is well formed or not, and before the next one or not
-module _ (t : List ℕ) (at : ℕ) (h : at + 128 ≤ length t) where
-  short : take 64 (drop at t) ≡ name t at
-  short = sym (part_from t at 64)
+-- what each exit of a loop over the names needs
+pub ruleset ordering = (names_all, names_more, names_end)
 
-  short' : take 64 (drop (at + 128) t) ≡ name t (at + 128)
-  short' = sym (part_from t (at + 128) 64)
-
-  pub malformed_stops : well_formed_name (name t at) ≡ false → ordered_names (map name_field (rest t at)) ≡ false
-  malformed_stops e = by (ltb (length t) (at + 256)) refl
-    where
-      by : (b : Bool) → ltb (length t) (at + 256) ≡ b → ordered_names (map name_field (rest t at)) ≡ false
-      by true q = last_ordered t at h (ltb-true (length t) (at + 256) q) ∙ e
-      by false q = inner_ordered t at (ltb-false (length t) (at + 256) q) ∙ rw e
-
-  module _ (w : well_formed_name (name t at) ≡ true) (r : Bool) (before : IsBeforeNext t at r) where
-    pub descent_stops : r ≡ false → ordered_names (map name_field (rest t at)) ≡ false
-    descent_stops e = by (ltb (length t) (at + 256)) refl
-      where
-        by : (b : Bool) → ltb (length t) (at + 256) ≡ b → ordered_names (map name_field (rest t at)) ≡ false
-        by true q = absurd (false≢true (sym e ∙ before.last (ltb-true (length t) (at + 256) q)))
-        by false q =
-            let l = ltb-false (length t) (at + 256) q in
-            let less-not : less (name t at) (name t (at + 128)) ≡ false = rw (← short, ← short') (sym (before.inner l) ∙ e) in
-            inner_ordered t at l ∙ rw (w, less-not)
-
-    pub ordered_goes : r ≡ true → ordered_names (map name_field (rest t at)) ≡ ordered_names (map name_field (rest t (at + 128)))
-    ordered_goes e = by (ltb (length t) (at + 256)) refl
-      where
-        by : (b : Bool) → ltb (length t) (at + 256) ≡ b → ordered_names (map name_field (rest t at)) ≡ ordered_names (map name_field (rest t (at + 128)))
-        by true q =
-            let l = ltb-true (length t) (at + 256) q in
-            last_ordered t at h l ∙ w ∙ sym (none_ordered t (at + 128) (omega arith))
-        by false q =
-            let l = ltb-false (length t) (at + 256) q in
-            let less-so : less (name t at) (name t (at + 128)) ≡ true = rw (← short, ← short') (sym (before.inner l) ∙ e) in
-            inner_ordered t at l ∙ rw (w, less-so)
-
--- a name field with its first zero at byte n
-module _ (f : List ℕ) (n : ℕ) (e : n ≡ 0 + span NonZero f) where
-  first_zero : span NonZero f ≡ n
-  first_zero = omega arith
-
-  front : take (n - 0) f ≡ take n f
-  front = let z : n - 0 ≡ n = omega arith in rw z
-
-  pub named : is_name (take (n - 0) f) ≡ true → zeros (take (length f - n) (drop n f)) ≡ well_formed_name f
-  unfolding well_formed_name
-  named h = rw (first_zero, ← front, h, part_rest f n)
-
-  pub unnamed : is_name (take (n - 0) f) ≡ false → false ≡ well_formed_name f
-  unfolding well_formed_name
-  unnamed h = rw (first_zero, ← front, h)
+-- the content of a plain kind is at most 56 bytes
+pub content_fits : (k n : ℕ) → plain_kind k n ≡ true → n ≤ 56
+unfolding plain_kind
+content_fits k n h = by (eqb k 0) (eqb k 1 || eqb k 2) h
+  where
+    by : (a b : Bool) → pick a (eqb n 8) (pick b (leb n 56) false) ≡ true → n ≤ 56
+    by true b g = omega (arith, eqb-true n 8 g)
+    by false true g = omega (arith, leb-true n 56 g)
+    by false false g = absurd (false≢true g)
 
 -- a record with the length byte n
 module _ (r : List ℕ) (n : ℕ) (e : n ≡ length_byte r) (k : plain_kind (kind_byte r) (length_byte r) ≡ true)
     (z : zeros (take 6 (drop 66 r)) ≡ true) where
-  pub padded : zeros (take (length r - (72 + n)) (drop (72 + n) r)) ≡ plain_record r
-  unfolding plain_record
-  padded = rw (k, z, ← e, part_rest r (72 + n))
-
   -- with a plain kind and length, the content is within the record
   pub roomy : n ≤ 56
-  unfolding plain_kind
-  roomy = by (eqb (kind_byte r) 0) (eqb (kind_byte r) 1 || eqb (kind_byte r) 2) k
-    where
-      by : (a b : Bool) → pick a (eqb (length_byte r) 8) (pick b (leb (length_byte r) 56) false) ≡ true → n ≤ 56
-      by true b g = omega (arith, eqb-true (length_byte r) 8 g)
-      by false true g = omega (arith, leb-true (length_byte r) 56 g)
-      by false false g = absurd (false≢true g)
+  roomy = omega (arith, e, content_fits (kind_byte r) (length_byte r) k)

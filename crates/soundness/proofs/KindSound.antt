@@ -1,21 +1,21 @@
 -- If the kinds in an expression do not clash, its value has its kind, or evaluation met 11 or 12. One law for each form, from the same of
 -- its operands. Assumes nothing.
+use Rattle.std.specs.Prelude.{Err, Ok, Result}
 use Prim.Native.Nat.{ℕ, ◌+◌, ◌*◌, ◌-◌, ◌/◌, ◌%◌, ◌^◌}
 use mathlib.Core.Path.{◌≡◌, refl, sym, ap, ◌∙◌}
 use mathlib.Core.Logic.{inl, inr}
 use mathlib.Core.Bool.{Bool, true, false, ◌&&◌, false≢true}
 use lib.Dec.{eqb, ltb, leb}
 use borrow.Author.Tests.{eqb-true}
-use Rattle.units.specs.Refusals.{RESULT_RANGE, DIVISOR_ZERO}
+use Rattle.units.specs.declared.Reason.{Reason}
+use Rattle.units.specs.declared.Reason.TheVariants.{DivisorZero, ResultRange}
 use Rattle.text.specs.Bytes.{pick}
 use Rattle.text.proofs.Laws.{pick_case, and_left, and_right}
+use Rattle.lookup.specs.declared.TextKind.{TextKind}
+use Rattle.lookup.specs.declared.TextKind.TheVariants.{String as TextString, Wide as TextWide}
 use Rattle.token.specs.Tokens.{Token}
 use Rattle.arithmetic.specs.Operators.{Unary, negation, complement, minus, plus, apply_unary, unary, Binary, product, quotient, remainder, sum}
 use Rattle.arithmetic.specs.Operators.{difference, shift_left, shift_right, bit_and, bit_xor, bit_or, and, xor, or, apply_binary, binary}
-use Rattle.arithmetic.specs.declared.Outcome.{Outcome}
-use Rattle.arithmetic.specs.declared.Outcome.TheVariants.{Number as Result, Refused}
-use Rattle.lookup.specs.declared.TextKind.{TextKind}
-use Rattle.lookup.specs.declared.TextKind.TheVariants.{String as TextString, Wide as TextWide}
 use Rattle.value.specs.Places.{Memory}
 use Rattle.value.specs.Kinds.{kind_number, of_text, is_number, alike_kinds, compares, suits, clashes, clash_or}
 use Rattle.value.specs.Kinds.{unary_kind, binary_kind, choice_kind}
@@ -31,16 +31,16 @@ abbrev pub KindSound : Attributes → Type 0
 KindSound a = clashes a.kind ≡ false → HasKind a.kind a.value
 
 -- an outcome of arithmetic: a number, or a refusal of evaluation
-Timely : Outcome → Type 0
-Timely (Result x) = Unit
-Timely (Refused n) = RuntimeRefusal n
+Timely : Result ℕ Reason → Type 0
+Timely (Ok x) = Unit
+Timely (Err n) = RuntimeRefusal n
 
-result_suits : (at : ℕ) (r : Outcome) → Timely r → HasKind Number (result_of at r)
+result_suits : (at : ℕ) (r : Result ℕ Reason) → Timely r → HasKind Number (result_of at r)
 unfolding Timely
-result_suits at (Result x) h = refl
-result_suits at (Refused n) h = h
+result_suits at (Ok x) h = refl
+result_suits at (Err n) h = h
 
-either : (t : Bool) (r s : Outcome) → Timely r → Timely s → Timely (pick t r s)
+either : (t : Bool) (r s : Result ℕ Reason) → Timely r → Timely s → Timely (pick t r s)
 either true r s h k = h
 either false r s h k = k
 
@@ -48,16 +48,16 @@ changed_timely : (o : Unary) (x : ℕ) → Timely (apply_unary o x)
 unfolding Timely apply_unary
 changed_timely negation x = tt
 changed_timely complement x = tt
-changed_timely minus x = either (leb x 0) (Result (0 - x)) (Refused RESULT_RANGE) tt (inl refl)
+changed_timely minus x = either (leb x 0) (Ok (0 - x)) (Err ResultRange) tt (inl refl)
 changed_timely plus x = tt
 
-ranged_timely : (v : ℕ) → Timely (pick (ltb v (2 ^ 64)) (Result v) (Refused RESULT_RANGE))
+ranged_timely : (v : ℕ) → Timely (pick (ltb v (2 ^ 64)) (Ok v) (Err ResultRange))
 unfolding Timely
-ranged_timely v = either (ltb v (2 ^ 64)) (Result v) (Refused RESULT_RANGE) tt (inl refl)
+ranged_timely v = either (ltb v (2 ^ 64)) (Ok v) (Err ResultRange) tt (inl refl)
 
-divided_timely : (y v : ℕ) → Timely (pick (eqb y 0) (Refused DIVISOR_ZERO) (Result v))
+divided_timely : (y v : ℕ) → Timely (pick (eqb y 0) (Err DivisorZero) (Ok v))
 unfolding Timely
-divided_timely y v = either (eqb y 0) (Refused DIVISOR_ZERO) (Result v) (inr refl) tt
+divided_timely y v = either (eqb y 0) (Err DivisorZero) (Ok v) (inr refl) tt
 
 applied_timely : (o : Binary) (x y : ℕ) → Timely (apply_binary o x y)
 unfolding Timely apply_binary
@@ -65,7 +65,7 @@ applied_timely product x y = ranged_timely (x * y)
 applied_timely quotient x y = divided_timely y (x / y)
 applied_timely remainder x y = divided_timely y (x % y)
 applied_timely sum x y = ranged_timely (x + y)
-applied_timely difference x y = either (leb y x) (Result (x - y)) (Refused RESULT_RANGE) tt (inl refl)
+applied_timely difference x y = either (leb y x) (Ok (x - y)) (Err ResultRange) tt (inl refl)
 applied_timely shift_left x y = ranged_timely (x * 2 ^ y)
 applied_timely shift_right x y = tt
 applied_timely bit_and x y = tt

@@ -1,5 +1,7 @@
 -- A primary depends on the table only through the record under the name in its token, and not on the place of that record; and so do
 -- the PCDs that are missing. Assumes nothing.
+use Rattle.std.specs.Prelude.{Option, Some, None, unwrap_or}
+use Rattle.std.specs.Option.{is_some}
 use Prim.Native.Nat.{ℕ}
 use mathlib.Core.Path.{◌≡◌, refl, sym, ap, ◌∙◌}
 use mathlib.Core.Logic.{inl, inr}
@@ -9,10 +11,10 @@ use lib.Dec.{eqb}
 use borrow.Author.Tests.{eqb-true}
 use Rattle.text.proofs.Laws.{pick_both}
 use Rattle.codes.specs.Codes.{STRING, WIDE, MACRO, PCD, BARE}
-use Rattle.lookup.specs.Setting.{setting_under, record_under, Within}
+use Rattle.lookup.specs.Setting.{value_of, setting_under, record_under, Within}
 use Rattle.lookup.specs.declared.Value.{Value as CodedValue}
-use Rattle.lookup.specs.declared.Value.TheVariants.{Number, Text, Fault}
-use Rattle.lookup.proofs.Records.{Content, number as holds, text as holds_text, fault as holds_fault, content_in, contents_of, under_content}
+use Rattle.lookup.specs.declared.Value.TheVariants.{Number, Text}
+use Rattle.lookup.proofs.Records.{Content, number as holds, text as holds_text, content_in, contents_in, contents_of, under_content}
 use Rattle.lookup.proofs.Within.{under_within}
 use Rattle.token.specs.Tokens.{Token}
 use Rattle.value.specs.Places.{over, in_expression}
@@ -24,7 +26,6 @@ use Rattle.soundness.proofs.ErasePlaces.{erase_places, erase_places_of}
 given : Content → Value
 given (holds x) = number x
 given (holds_text k s) = text k (in_expression 0 0) s
-given (holds_fault f) = fault f
 
 kind_erased : (v : Value) → kind_of (erase_places v) ≡ kind_of v
 kind_erased (number x) = refl
@@ -35,21 +36,33 @@ setting_given : (e t : List ℕ) (v : CodedValue) → Within t v → erase_place
 unfolding given
 setting_given e t (Number x) h = refl
 setting_given e t (Text k p) h = rw h.0
-setting_given e t (Fault f) h = absurd h
+
+-- the contents of a name that may be set
+some_content : (t : List ℕ) (s : Option CodedValue) → is_some (contents_in t s) ≡ is_some s
+some_content t None = refl
+some_content t (Some v) = refl
+
+content_of_value : (t : List ℕ) (s : Option CodedValue) → content_in t (value_of s) ≡ unwrap_or (contents_in t s) (holds 0)
+content_of_value t None = refl
+content_of_value t (Some v) = refl
 
 -- two tables with the same record under a name
 module _ (t u n : List ℕ) (same : record_under t n ≡ record_under u n) where
-  same_found : (setting_under t n).found ≡ (setting_under u n).found
-  same_found = ap (λ c. c.found) (under_content t n) ∙ ap (λ r. (contents_of r).found) same ∙ sym (ap (λ c. c.found) (under_content u n))
+  same_contents : contents_in t (setting_under t n) ≡ contents_in u (setting_under u n)
+  same_contents = under_content t n ∙ ap contents_of same ∙ sym (under_content u n)
 
-  same_content : content_in t (setting_under t n).value ≡ content_in u (setting_under u n).value
-  same_content = ap (λ c. c.content) (under_content t n) ∙ ap (λ r. (contents_of r).content) same ∙ sym (ap (λ c. c.content) (under_content u n))
+  same_found : is_some (setting_under t n) ≡ is_some (setting_under u n)
+  same_found = sym (some_content t (setting_under t n)) ∙ ap is_some same_contents ∙ some_content u (setting_under u n)
 
-  same_setting : (e : List ℕ) → erase_places (denote_value (over e t) (setting_under t n).value)
-      ≡ erase_places (denote_value (over e u) (setting_under u n).value)
+  same_content : content_in t (value_of (setting_under t n)) ≡ content_in u (value_of (setting_under u n))
+  same_content =
+      content_of_value t (setting_under t n) ∙ ap (λ c. unwrap_or c (holds 0)) same_contents ∙ sym (content_of_value u (setting_under u n))
+
+  same_setting : (e : List ℕ) → erase_places (denote_value (over e t) (value_of (setting_under t n)))
+      ≡ erase_places (denote_value (over e u) (value_of (setting_under u n)))
   same_setting e =
-      setting_given e t (setting_under t n).value (under_within t n) ∙ ap given same_content
-      ∙ sym (setting_given e u (setting_under u n).value (under_within u n))
+      setting_given e t (value_of (setting_under t n)) (under_within t n) ∙ ap given same_content
+      ∙ sym (setting_given e u (value_of (setting_under u n)) (under_within u n))
 
 module _ (e t u : List ℕ) where
   -- the tables have the same record under the name in a token
@@ -87,6 +100,6 @@ module _ (e t u : List ℕ) where
   same_missing [] same = refl
   same_missing (k ∷ ts) same = rw (here (eqb k.code PCD) refl, same_missing ts (λ j i. same j (Memᴰ.tail i)))
     where
-      here : (p : Bool) → eqb k.code PCD ≡ p → (p && not (setting_of (over e t) k).found) ≡ (p && not (setting_of (over e u) k).found)
+      here : (p : Bool) → eqb k.code PCD ≡ p → (p && not (is_some (setting_of (over e t) k))) ≡ (p && not (is_some (setting_of (over e u) k)))
       here true h = rw (same_found t u (name_in e k) (same k (Memᴰ.head refl) (inr (eqb-true k.code PCD h))))
       here false h = refl

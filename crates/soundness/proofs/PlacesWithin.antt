@@ -1,20 +1,20 @@
 -- The place that attributes carry for wrong kinds, and that for a fault of evaluation, are within n bytes if those of the operands and of the
 -- operator are. One law for each form. Assumes nothing.
+use Rattle.std.specs.Prelude.{Err, Ok, Result}
 use Prim.Native.Nat.{ℕ, ◌≤◌}
 use mathlib.Core.Bool.{◌&&◌, ◌||◌}
 use lib.Dec.{eqb}
+use Rattle.units.specs.declared.Reason.{Reason}
 use Rattle.text.proofs.Laws.{pick_case}
 use Rattle.codes.specs.Codes.{STRING, WIDE, MACRO, PCD, BARE}
-use Rattle.lookup.specs.Setting.{Within as WithinTable}
+use Rattle.lookup.specs.Setting.{value_of, Within as WithinTable}
 use Rattle.lookup.specs.declared.TextKind.{TextKind}
 use Rattle.lookup.specs.declared.TextKind.TheVariants.{String as TextString, Wide as TextWide}
 use Rattle.lookup.specs.declared.Value.{Value as CodedValue}
-use Rattle.lookup.specs.declared.Value.TheVariants.{Number as Counted, Text, Fault}
+use Rattle.lookup.specs.declared.Value.TheVariants.{Number as Counted, Text}
 use Rattle.lookup.proofs.Within.{under_within}
-use Rattle.arithmetic.specs.Operators.{unary_of, binary_of}
-use Rattle.arithmetic.specs.declared.Outcome.{Outcome}
-use Rattle.arithmetic.specs.declared.Outcome.TheVariants.{Number as Result, Refused}
 use Rattle.token.specs.Tokens.{Token}
+use Rattle.arithmetic.specs.Operators.{unary_of, binary_of}
 use Rattle.value.specs.Places.{Memory}
 use Rattle.value.specs.Kinds.{of_text, is_number, alike_kinds, compares, suits, clash_or, unary_kind, binary_kind, choice_kind}
 use Rattle.value.specs.Values.{Value, number, text, fault, kind_of, denote_value, name_in, setting_of, primary_value, result_of}
@@ -32,7 +32,6 @@ Faultless (fault f) = ⊥
 setting_faultless : (m : Memory) (v : CodedValue) → WithinTable m.table v → Faultless (denote_value m v)
 setting_faultless m (Counted x) h = tt
 setting_faultless m (Text k p) h = tt
-setting_faultless m (Fault f) h = h
 
 pub primary_faultless : (m : Memory) (k : Token) → Faultless (primary_value m k)
 unfolding primary_value
@@ -41,7 +40,7 @@ primary_faultless m k =
     (λ _. pick_case Faultless (eqb k.code WIDE) (λ _. tt)
     (λ _. pick_case Faultless (eqb k.code BARE) (λ _. tt)
     (λ _. pick_case Faultless (eqb k.code MACRO || eqb k.code PCD)
-    (λ _. setting_faultless m (setting_of m k).value (under_within m.table (name_in m.expression k)))
+    (λ _. setting_faultless m (value_of (setting_of m k)) (under_within m.table (name_in m.expression k)))
     (λ _. tt))))
 
 module _ (n : ℕ) where
@@ -73,9 +72,9 @@ module _ (n : ℕ) where
   or_in (Clash p) k g h = g
 
   -- values
-  result_in : (at : ℕ) (r : Outcome) → at ≤ n → ValueIn (result_of at r)
-  result_in at (Result x) h = tt
-  result_in at (Refused r) h = h
+  result_in : (at : ℕ) (r : Result ℕ Reason) → at ≤ n → ValueIn (result_of at r)
+  result_in at (Ok x) h = tt
+  result_in at (Err r) h = h
 
   unary_in : (o at : ℕ) (v : Value) → at ≤ n → ValueIn v → ValueIn (unary_value o at v)
   unfolding unary_value

@@ -1,23 +1,24 @@
 -- A property of every number and of every fault is a property of the result of an operator, which is one of them; and of a choice if both
 -- arms have it. Assumes nothing.
+use Rattle.std.specs.Prelude.{Err, Ok, Result}
 use Prim.Native.Nat.{ℕ}
 use lib.Dec.{eqb}
+use Rattle.units.specs.Refusals.{fault_at}
+use Rattle.units.specs.declared.Fault.{Fault}
+use Rattle.units.specs.declared.Reason.{Reason}
+use Rattle.units.specs.declared.Reason.TheVariants.{KindsUnsuited}
 use Rattle.text.proofs.Laws.{pick_case}
 use Rattle.arithmetic.specs.Operators.{unary_of, binary_of}
-use Rattle.arithmetic.specs.declared.Outcome.{Outcome}
-use Rattle.arithmetic.specs.declared.Outcome.TheVariants.{Number as Result, Refused}
-use Rattle.units.specs.Refusals.{KINDS_UNSUITED, fault_at}
-use Rattle.units.specs.declared.Fault.{Fault}
 use Rattle.value.specs.Kinds.{of_text, compares, suits}
 use Rattle.value.specs.Values.{Value, number, text, fault, result_of, unsuited, unary_value, skips, both_values, binary_value, choice_value}
 
 module _ (P : Value → Type 0) (numbers : (x : ℕ) → P (number x)) (faults : (f : Fault) → P (fault f)) where
-  result : (at : ℕ) (r : Outcome) → P (result_of at r)
-  result at (Result x) = numbers x
-  result at (Refused n) = faults (fault_at n at)
+  result : (at : ℕ) (r : Result ℕ Reason) → P (result_of at r)
+  result at (Ok x) = numbers x
+  result at (Err n) = faults (fault_at n at)
 
   wrong : (at : ℕ) → P (unsuited at)
-  wrong at = faults (fault_at KINDS_UNSUITED at)
+  wrong at = faults (fault_at KindsUnsuited at)
 
   pub of_unary : (o at : ℕ) (v : Value) → P (unary_value o at v)
   unfolding unary_value

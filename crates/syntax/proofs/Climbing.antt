@@ -10,8 +10,8 @@ use Rattle.grammar.specs.Parse.{Result, bad, find}
 use Rattle.grammar.specs.Climb.{Climbs}
 use Rattle.grammar.proofs.Climb.{nothing, joined_bad, joined, climbed}
 use Rattle.syntax.specs.Order.{code_at, postfix, Ordered}
-use Rattle.syntax.specs.Descent.{Fit, Appended, Appends}
-use Rattle.syntax.proofs.Orders.{ended, put_long, found, after, passed, extra, both}
+use Rattle.syntax.specs.Descent.{Fit, Appended}
+use Rattle.syntax.proofs.Orders.{ended, put_long, after, passed, extra, both}
 
 -- the level of the code of a token
 pub read : {o d l : ℕ} → o ≡ d → l ≡ level_of o → level_of d ≡ l
@@ -49,18 +49,17 @@ begun {m = m} {o = o} h l e =
 module _ {cs : List ℕ} {n k : ℕ} (top : k ≤ 12) {i m₀ : ℕ} {o₀ : List ℕ} {at₁ m₁ : ℕ} {o₁ : List ℕ} (first : Appended cs n (find (level 1) i) i m₀ o₀ at₁ m₁ o₁)
     {low at m : ℕ} {o : List ℕ} (g : Grown cs n k at₁ m₁ o₁ low at m o) where
   -- no operator of the other levels follows
-  pub stays : Fit n i m₀ o₀ → ((x : ℕ) → low ≤ x → x < k → level_of (code_at cs n at) ≡ suc x → ⊥) → Appends cs n (find (level k) i) i m₀ o₀ at m o
+  pub stays : Fit n i m₀ o₀ → ((x : ℕ) → low ≤ x → x < k → level_of (code_at cs n at) ≡ suc x → ⊥) → Appended cs n (find (level k) i) i m₀ o₀ at m o
   stays f none =
       let entries = first.entries ++ g.more in
       let rest = nothing (ended cs n) low k entries at g.within_level none in
-      found (omega (arith, g.within, f.few))
-      (record {
+      record {
         entries = entries;
         made = climbed (ended cs n) i (omega arith) top first.made (g.goes first.entries _ rest);
         held = both first g.more g.held;
         most = omega (arith, g.most, first.most);
         long = g.long;
-      })
+      }
 
   -- for the right operand of an operator that follows
   pub room : Fit n i m₀ o₀ → at < n → Fit n (at + 1) m o

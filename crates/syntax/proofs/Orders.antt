@@ -9,12 +9,12 @@ use lib.ListN.{length, take, set, length-set}
 use lib.Seq.{take-suc-set}
 use borrow.Author.Tests.{le-ltb}
 use Rattle.codes.specs.Levels.{is_unary}
-use Rattle.grammar.specs.Grammar.{Nonterminal, level}
+use Rattle.grammar.specs.Grammar.{Nonterminal, level, expression}
 use Rattle.grammar.specs.Parse.{Ends, Goal, bad, got, find}
 use Rattle.grammar.specs.Decides.{InTable}
 use Rattle.grammar.proofs.Steps.{moved, unary_bad, unary_made}
-use Rattle.syntax.specs.Order.{code_at, UNARY, FILLER, Ordered}
-use Rattle.syntax.specs.Descent.{BAD, Fit, Appended, Appends, back}
+use Rattle.syntax.specs.Order.{code_at, UNARY, FILLER, Ordered, OrderTo}
+use Rattle.syntax.specs.Descent.{Fit, Appended, back}
 
 -- after the last token the code is END
 pub ended : (cs : List ℕ) (n : ℕ) → Ends (code_at cs n) (λ i. i) n
@@ -58,19 +58,6 @@ module _ (cs : List ℕ) (n : ℕ) where
   wrong z (suc m) i j q f u =
       unary_bad (ended cs n) i (f i (omega arith) (omega arith)) z (wrong z m (i + 1) j (omega arith) (λ x a b. f x (omega arith) b) u)
 
--- the three exits of a function of the descent: a fault of a callee, a fault of its own, and a part that was found
-module _ {cs : List ℕ} {n : ℕ} {g : Goal (List ℕ)} {i m : ℕ} {o : List ℕ} {m' : ℕ} {o' : List ℕ} where
-  pub handed : {r : ℕ} → BAD ≤ r → Ordered cs n g (bad (r - BAD)) → Appends cs n g i m o r m' o'
-  handed h u = record { wrong = λ _. u; right = λ l. absurd (omega arith) }
-
-  pub faulty : (z : ℕ) → Ordered cs n g (bad z) → Appends cs n g i m o (BAD + z) m' o'
-  faulty z u =
-      let e : BAD + z - BAD ≡ z = omega arith in
-      record { wrong = λ _. rw e u; right = λ l. absurd (omega arith) }
-
-  pub found : {r : ℕ} → r < BAD → Appended cs n g i m o r m' o' → Appends cs n g i m o r m' o'
-  found h p = record { wrong = λ l. absurd (omega arith); right = λ _. p }
-
 -- entries after entries
 pub after : (t u a b : List ℕ) {r : List ℕ} → r ≡ u ++ b → u ≡ t ++ a → r ≡ t ++ (a ++ b)
 after t u a b e f = rw (e, f) (append_assoc t a b)
@@ -97,3 +84,13 @@ module _ {cs : List ℕ} {n : ℕ} {x : Nonterminal} {i m : ℕ} {o : List ℕ} 
 pub chosen : (t t₁ t₂ c a b : List ℕ) (q : ℕ) {r : List ℕ} → t₁ ≡ t ++ c → t₂ ≡ t₁ ++ a → r ≡ t₂ ++ ((b ++ (q ∷ [])) ++ (FILLER ∷ []))
     → r ≡ t ++ (c ++ (a ++ (b ++ (q ∷ FILLER ∷ []))))
 chosen t t₁ t₂ c a b q e f g = rw (g, f, e) (simp append_assoc)
+
+-- the entries of the whole expression, where none was before it: at most as many as there are tokens
+pub whole_order : {cs : List ℕ} {n : ℕ} {o : List ℕ} {r m : ℕ} {o' o'' : List ℕ} → n ≤ 200
+    → Appended cs n (find expression 0) 0 0 o r m o' → o'' ≡ o' → OrderTo cs n m r o''
+whole_order h found e =
+    rw e (record {
+      made = rw (← found.held) at found.made;
+      most = omega (arith, found.most, passed found tt, h);
+      long = found.long;
+    })

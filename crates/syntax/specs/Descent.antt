@@ -1,12 +1,9 @@
 -- The contracts of the functions of the descent. No promise about an expression cites this.
-use Rattle.std.specs.Prelude.{ℕ, zero, suc, ◌+◌, ◌-◌, ◌≤◌, ◌<◌, ◌≡◌, true, List, [], ◌∷◌, ◌++◌, length, take}
+use Rattle.std.specs.Prelude.{ℕ, zero, suc, ◌+◌, ◌-◌, ◌≤◌, ◌<◌, ◌≡◌, true, Result, Ok, Err, List, [], ◌∷◌, ◌++◌, length, take}
+use Rattle.units.specs.declared.TokenNumber.{TokenNumber}
 use Rattle.codes.specs.Levels.{is_unary}
 use Rattle.grammar.specs.Parse.{Goal, bad, got}
 use Rattle.syntax.specs.Order.{code_at, UNARY, Ordered}
-
--- a fault at a token is returned as the token's number plus BAD, which is above every token's number
-abbrev pub BAD : ℕ
-BAD = 256
 
 -- the precondition of a function that starts at token i with m entries written: there are at most as many entries as tokens before i
 pub record Fit (n i m : ℕ) (o : List ℕ) : Type 0 where
@@ -24,9 +21,9 @@ pub record Appended (cs : List ℕ) (n : ℕ) (g : Goal (List ℕ)) (i m : ℕ) 
   pub long : length o' ≡ 200
 
 -- the postcondition: a fault, or a part that was found
-pub record Appends (cs : List ℕ) (n : ℕ) (g : Goal (List ℕ)) (i m : ℕ) (o : List ℕ) (r m' : ℕ) (o' : List ℕ) : Type 0 where
-  pub wrong : BAD ≤ r → Ordered cs n g (bad (r - BAD))
-  pub right : r < BAD → Appended cs n g i m o r m' o'
+abbrev pub Appends : (cs : List ℕ) (n : ℕ) (g : Goal (List ℕ)) (i m : ℕ) (o : List ℕ) → Result TokenNumber TokenNumber → (m' : ℕ) (o' : List ℕ) → Type 0
+Appends cs n g i m o (Err z) m' o' = Ordered cs n g (bad z.0)
+Appends cs n g i m o (Ok r) m' o' = Appended cs n g i m o r.0 m' o'
 
 -- the tokens from i to j, of n, are unary operators
 pub record Run (cs : List ℕ) (n i j : ℕ) : Type 0 where

@@ -1,12 +1,11 @@
 -- The postfix order of an expression: each operator after its operands. The contract between the descent and the loop that evaluates the
 -- order; no promise about an expression cites this.
-use Rattle.std.specs.Prelude.{ℕ, ◌+◌, ◌≤◌, ◌≡◌, List, [], ◌∷◌, ◌++◌, length, get_or, take, ltb}
+use Rattle.std.specs.Prelude.{ℕ, ◌+◌, ◌≤◌, ◌≡◌, List, [], ◌∷◌, ◌++◌, length, get_or, take, ltb, Result as Returned, Ok, Err}
+use Rattle.units.specs.declared.TokenNumber.{TokenNumber}
 use Rattle.text.specs.Bytes.{pick}
 use Rattle.grammar.specs.Grammar.{expression}
 use Rattle.grammar.specs.Fold.{Algebra}
 use Rattle.grammar.specs.Parse.{Goal, Result, bad, got, find, Yields, END}
-use Rattle.syntax.specs.declared.descent.Postfix.{Postfix}
-use Rattle.syntax.specs.declared.descent.Postfix.TheVariants.{Bad, Order}
 
 -- the code of token i of n tokens; END after them
 abbrev pub code_at : List ℕ → ℕ → ℕ → ℕ
@@ -41,6 +40,6 @@ pub record OrderTo (cs : List ℕ) (n m j : ℕ) (o : List ℕ) : Type 0 where
   pub long : length o ≡ 200
 
 -- the postcondition of the descent: its result, and the list that it wrote
-abbrev pub WritesPostfix : (cs : List ℕ) (n : ℕ) → Postfix → List ℕ → Type 0
-WritesPostfix cs n (Bad z) o = Ordered cs n (find expression 0) (bad z.0)
-WritesPostfix cs n (Order m j) o = OrderTo cs n m j.0 o
+abbrev pub WritesPostfix : (cs : List ℕ) (n : ℕ) → Returned (ℕ × TokenNumber) TokenNumber → List ℕ → Type 0
+WritesPostfix cs n (Err z) o = Ordered cs n (find expression 0) (bad z.0)
+WritesPostfix cs n (Ok p) o = OrderTo cs n p.0 p.1.0 o

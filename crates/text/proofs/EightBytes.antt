@@ -8,9 +8,15 @@ use lib.ListN.{length, get_or, take, drop}
 use lib.Seq.{ext_get_or, get_or-take, get_or-drop}
 use lib.Dec.{eqb}
 use borrow.Author.Tests.{eqb-true, eqb-false}
+use Rattle.std.proofs.Common.{Fits, w8}
 use Rattle.text.specs.Order.{is_equal, equal}
 use Rattle.text.specs.Numbers.{little_endian, AreBytes}
 use Rattle.text.proofs.Orders.{same_equal, differs}
+
+-- numbers that fit a byte are bytes
+pub are_bytes : (n i : ℕ) (s : List ℕ) → ((k : ℕ) → Fits w8 (get_or s k 0)) → AreBytes n i s
+are_bytes zero i s f = tt
+are_bytes (suc n) i s f = let h = f i in (omega arith, are_bytes n (suc i) s f)
 
 -- the bytes of a number, one by one
 same_bytes : (n i : ℕ) (a b : List ℕ) → AreBytes n i a → AreBytes n i b → little_endian n i a ≡ little_endian n i b

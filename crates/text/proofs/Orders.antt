@@ -9,11 +9,11 @@ use lib.Dec.{ltb}
 use borrow.Author.Tests.{lt-ltb, le-ltb, ltb-true, ltb-false}
 use Rattle.text.specs.Bytes.{pick}
 use Rattle.text.specs.Order.{compared, is_less, is_equal, equal}
-use Rattle.text.specs.declared.order.Order.{Order}
-use Rattle.text.specs.declared.order.Order.TheVariants.{Less, Equal, Greater}
+use Rattle.std.specs.declared.cmp.Ordering.{Ordering}
+use Rattle.std.specs.declared.cmp.Ordering.TheVariants.{Equal, Greater, Less}
 
 -- the order seen from the other side
-abbrev pub turned : Order → Order
+abbrev pub turned : Ordering → Ordering
 turned Less = Greater
 turned Equal = Equal
 turned Greater = Less
@@ -42,7 +42,7 @@ equal_same (x ∷ a) (y ∷ b) e = by (ltb x y) refl (ltb y x) refl (equal_same 
 pub equals : (a b : List ℕ) → equal a b ≡ true → a ≡ b
 equals a b e = by (compared a b) refl e
   where
-    by : (o : Order) → compared a b ≡ o → is_equal o ≡ true → a ≡ b
+    by : (o : Ordering) → compared a b ≡ o → is_equal o ≡ true → a ≡ b
     by Less g h = absurd (false≢true h)
     by Equal g h = equal_same a b g
     by Greater g h = absurd (false≢true h)

@@ -3,17 +3,19 @@
 -- any dialect. The definitions in the statements are in the files that the imports name.
 -- Demand 1 is no theorem here: the toolchain proves of each function that it ends, does nothing undefined and gives an answer for any bytes.
 use Rattle.std.specs.Prelude.{ℕ, ◌+◌, ◌-◌, ◌^◌, ◌≤◌, ◌<◌, ◌≡◌, ◌↔◌, ◌⊎◌, Bool, true, false, ◌||◌, length, get_or, take, drop, replicate}
+use Rattle.std.specs.Prelude.{Option, Some, None, unwrap_or, Result, Ok, Err}
+use Rattle.std.specs.Option.{is_some, option_map}
 use mathlib.Core.List.{List, [], ◌∷◌, ◌++◌, map, Memᴰ, Sublistᴰ}
-use Rattle.units.specs.Refusals.{TABLE_MALFORMED, TOKEN_BAD, NO_DERIVATION, BAR_OUTSIDE, PCD_MISSING, KINDS_UNSUITED, TEXT_MALFORMED}
-use Rattle.units.specs.Refusals.{DEFINED_MANY, DEFINED_LONG}
-use Rattle.units.specs.Refusals.{refusal_at, fault_at, unplaced, placed}
+use Rattle.units.specs.Refusals.{TOKEN_BAD, NO_DERIVATION, BAR_OUTSIDE, TEXT_MALFORMED}
+use Rattle.units.specs.Refusals.{reason_number, refusal_at, fault_at, unplaced, placed}
 use Rattle.units.specs.Leftmost.{there}
 use Rattle.units.specs.Dialects.{by_itself, in_directives, in_new, in_old}
 use Rattle.units.specs.declared.Refusal.{Refusal}
 use Rattle.units.specs.declared.Dialect.{Dialect}
 use Rattle.units.specs.declared.Fault.{Fault}
 use Rattle.units.specs.declared.Offset.{Offset}
-use Rattle.units.specs.declared.Where.TheVariants.{Nowhere}
+use Rattle.units.specs.declared.Reason.TheVariants.{TableMalformed, TokenBad, NoDerivation, BarOutside, PcdMissing, KindsUnsuited}
+use Rattle.units.specs.declared.Reason.TheVariants.{FileUnfinished, TextMalformed, DefinedMany, DefinedLong}
 use Rattle.text.specs.Bytes.{byte, bytes, pick}
 use Rattle.text.specs.Runs.{span}
 use Rattle.text.specs.declared.runs.Set.TheVariants.{Word}
@@ -25,7 +27,7 @@ use Rattle.halving.proofs.Finds.{finds, one_record}
 use Rattle.halving.proofs.RoundsBounded.{at_most_ten, ten_in_a_table, first_takes_ten}
 use Rattle.halving.proofs.Beginning.{first_bytes_decide}
 use Rattle.halving.proofs.FullTable.{full_table}
-use Rattle.lookup.specs.Setting.{set_to, setting_under, record_among, record_under}
+use Rattle.lookup.specs.Setting.{setting_under, record_among, record_under}
 use Rattle.lookup.specs.declared.Place.{Place}
 use Rattle.lookup.specs.declared.TextKind.{TextKind}
 use Rattle.lookup.specs.declared.TextKind.TheVariants.{String}
@@ -39,13 +41,11 @@ use Rattle.codes.specs.Levels.{is_equality}
 use Rattle.codes.specs.Spellings.{found}
 use Rattle.lexeme.specs.Lexeme.{lexeme}
 use Rattle.token.specs.Tokens.{MAX_TOKENS, Token, first_place, ending_number, read_from, too_deep, codes_of, reading}
-use Rattle.token.specs.declared.scan.Ending.{Ending}
 use Rattle.scanned.specs.Scanned.{Scanned}
 use Rattle.scanned.specs.Depth.{FirstOver}
 use Rattle.scanned.proofs.ReadingScanned.{reading_scanned, scanned_reading}
 use Rattle.scanned.proofs.StartsAscend.{starts_ascend}
 use Rattle.scanned.proofs.TooDeepPlace.{too_deep_place, first_over_opens}
-use Rattle.token.specs.declared.scan.Ending.TheVariants.{Complete, Refused}
 use Rattle.grammar.specs.Grammar.{Tree, expression, Derives}
 use Rattle.grammar.specs.Fold.{Algebra, Counts, fold}
 use Rattle.grammar.specs.Bars.{bare_bars, bars_outside}
@@ -80,7 +80,6 @@ use Rattle.line.specs.Lines.{lines}
 use Rattle.line.specs.Directives.{is_define}
 use Rattle.line.specs.declared.Directive.{Directive}
 use Rattle.line.specs.declared.Directive.TheVariants.{If, Ifdef, Ifndef, Elseif, Else, Endif}
-use Rattle.line.specs.declared.Condition.TheVariants.{Refused as RefusedCondition}
 use Rattle.condition.specs.Conditions.{spaced, idle, of_answer, evaluate}
 use Rattle.define.specs.Define.{Definition, sets, fails as failing, shaped, macro_of, expression_of, expression_start, definition_of}
 use Rattle.define.specs.Lines.{DefineFirst, DefineText, DefineLine}
@@ -90,9 +89,7 @@ use Rattle.define.proofs.Outcomes.{says_once, line_says, other_shape, long_name_
 use Rattle.define.proofs.Sets.{record_set, record_kept, line_number, line_text}
 use Rattle.groups.specs.Groups.{State}
 use Rattle.select.specs.Step.{defines}
-use Rattle.select.specs.Select.{accepted, refused, run, start, selection, answer_of, refusal_number as selection_number, Selects}
-use Rattle.select.specs.declared.Answer.{Answer}
-use Rattle.select.specs.declared.Answer.TheVariants.{Accepted}
+use Rattle.select.specs.Select.{accepted, refused, run, start, selection, Answer, answer_of, refusal_number as selection_number, Selects}
 use Rattle.select.proofs.MarksEachLine.{marks_each_line}
 use Rattle.blocks.specs.Blocks.{Blocks, Derives as DerivesBlocks, depth}
 use Rattle.blocks.specs.Meaning.{means, fault, meaning, result_of, WithinLimit}
@@ -125,7 +122,6 @@ use Rattle.field.specs.Fields.{written_number, field_of, line_of as line_of_fiel
 use Rattle.field.proofs.LineZero.{without_line as field_without_line}
 use Rattle.field.proofs.Refused.{refused_field}
 use Rattle.field.proofs.Unplaced.{field_unplaced}
-use Rattle.datum.specs.declared.Written.TheVariants.{Length, Refused as RefusedField}
 use Rattle.editions.specs.BareWords.{BareWord, FollowEqualities}
 use Rattle.editions.specs.UsedNames.{past_blanks, SomeBlanks, Name, used, Uses}
 use Rattle.editions.proofs.Equalities.{equality_exactly}
@@ -148,37 +144,37 @@ one_tree = unambiguous
 -- Over a malformed table every expression is refused with 1. Over any other the answer is that without the check of the table, which is also
 -- what a condition of a selection takes, in its own dialect; the theorems after these say what it is. So a value is answered over a
 -- well-formed table only.
-pub malformed_table : (m : Memory) (δ : Dialect) → well_formed m.table ≡ false → evaluation m δ ≡ refused_with TABLE_MALFORMED
+pub malformed_table : (m : Memory) (δ : Dialect) → well_formed m.table ≡ false → evaluation m δ ≡ refused_with TableMalformed
 malformed_table = malformed
 
 pub well_formed_table : (m : Memory) (δ : Dialect) → well_formed m.table ≡ true → evaluation m δ ≡ evaluation_in m δ
 well_formed_table = is_well_formed
 
 -- The refusals of reading the tokens come first: 2 to 6.
-pub unreadable : (m : Memory) (δ : Dialect) (r : Refusal) → (reading m.expression δ).ending ≡ Refused r → evaluation_in m δ ≡ refused_by r
+pub unreadable : (m : Memory) (δ : Dialect) (r : Refusal) → (reading m.expression δ).ending ≡ Err r → evaluation_in m δ ≡ refused_by r
 unreadable = not_read
 
 -- If reading is complete, it ended at `end`, the place of the expression's `#` or its length. The answer is refusal 7 at offset o exactly if the
 -- tokens derive no tree and o is the place of the first token after which no continuation derives; if there is no such token, o is `end`.
-pub no_derivation : (m : Memory) (δ : Dialect) (end : Offset) → (reading m.expression δ).ending ≡ Complete end → (o : ℕ)
-    → (evaluation_in m δ ≡ refused_at NO_DERIVATION o)
+pub no_derivation : (m : Memory) (δ : Dialect) (end : Offset) → (reading m.expression δ).ending ≡ Ok end → (o : ℕ)
+    → (evaluation_in m δ ≡ refused_at NoDerivation o)
     ↔ (((s : Tree Token) → Derives code_of expression (reading m.expression δ).tokens s → ⊥)
     × ((e : ℕ) × FirstBad code_of (reading m.expression δ).tokens e × (o ≡ start_in (reading m.expression δ).tokens end.0 e)))
 no_derivation = seven_at
 
 -- So the number is 7 exactly if the tokens derive no tree.
-pub seven_exactly : (m : Memory) (δ : Dialect) (end : Offset) → (reading m.expression δ).ending ≡ Complete end
+pub seven_exactly : (m : Memory) (δ : Dialect) (end : Offset) → (reading m.expression δ).ending ≡ Ok end
     → (refusal_number (evaluation_in m δ) ≡ NO_DERIVATION) ↔ ((s : Tree Token) → Derives code_of expression (reading m.expression δ).tokens s → ⊥)
 seven_exactly = seven
 
 -- If they derive a tree, it decides: 8 at the leftmost bar outside parentheses unless the dialect allows it, then 9 at the leftmost PCD that the
 -- table does not have, then 10 at the first operator to blame, else the value and the count of the tree, or 11 or 12.
-pub tree_decides : (m : Memory) (δ : Dialect) (end : Offset) → (reading m.expression δ).ending ≡ Complete end
+pub tree_decides : (m : Memory) (δ : Dialect) (end : Offset) → (reading m.expression δ).ending ≡ Ok end
     → (s : Tree Token) (d : Derives code_of expression (reading m.expression δ).tokens s)
     → evaluation_in m δ
-    ≡ refused_or (pick δ.bars Nowhere (first_place (bare_bars code_of d))) BAR_OUTSIDE
-    (refused_or (pcd_at m (reading m.expression δ).tokens) PCD_MISSING
-    (refused_or (first_place (to_blame (attributes m) wrong_kinds s)) KINDS_UNSUITED
+    ≡ refused_or (pick δ.bars None (first_place (bare_bars code_of d))) BarOutside
+    (refused_or (pcd_at m (reading m.expression δ).tokens) PcdMissing
+    (refused_or (first_place (to_blame (attributes m) wrong_kinds s)) KindsUnsuited
     (answer_value (fold (attributes m) s).value (fold (attributes m) s).count)))
 tree_decides = by_the_tree
 
@@ -188,7 +184,7 @@ pub kinds_settle : (m : Memory) (s : Tree Token)
 kinds_settle = kind_sound
 
 -- So an answered value has the kind of the tree, also if operands were skipped.
-pub value_has_its_kind : (m : Memory) (δ : Dialect) (end : Offset) → (reading m.expression δ).ending ≡ Complete end
+pub value_has_its_kind : (m : Memory) (δ : Dialect) (end : Offset) → (reading m.expression δ).ending ≡ Ok end
     → (s : Tree Token) → Derives code_of expression (reading m.expression δ).tokens s
     → (v : Value) (n : ℕ) → evaluation_in m δ ≡ value v n → kind_of v ≡ (fold (attributes m) s).kind
 value_has_its_kind = value_kind
@@ -228,7 +224,7 @@ pub tokens_at_their_places : (e : List ℕ) (δ : Dialect)
     → Scanned e δ 0 0 false (read_from 0 MAX_TOKENS 0 false e δ).tokens (read_from 0 MAX_TOKENS 0 false e δ).ending
 tokens_at_their_places = reading_scanned
 
-pub nothing_else_is_read : (e : List ℕ) (δ : Dialect) (ts : List Token) (x : Ending) → Scanned e δ 0 0 false ts x
+pub nothing_else_is_read : (e : List ℕ) (δ : Dialect) (ts : List Token) (x : Result Offset Refusal) → Scanned e δ 0 0 false ts x
     → read_from 0 MAX_TOKENS 0 false e δ ≡ record { tokens = ts; ending = x }
 nothing_else_is_read e δ ts x = scanned_reading e δ
 
@@ -249,7 +245,7 @@ pub missing_pcd_place : (m : Memory) (us : List Token) (k : Token) (vs : List To
     → ((j : Token) → Memᴰ j us → is_missing_pcd m j ≡ false) → is_missing_pcd m k ≡ true → pcd_at m (us ++ k ∷ vs) ≡ there k.start
 missing_pcd_place = nine_at
 
-pub no_missing_pcd : (m : Memory) (ts : List Token) → ((j : Token) → Memᴰ j ts → is_missing_pcd m j ≡ false) → pcd_at m ts ≡ Nowhere
+pub no_missing_pcd : (m : Memory) (ts : List Token) → ((j : Token) → Memᴰ j ts → is_missing_pcd m j ≡ false) → pcd_at m ts ≡ None
 no_missing_pcd = nine_nowhere
 
 -- 10: the operators to blame are those that are wrong while none of their operands is. They come in the order of the tokens, so that the first of
@@ -276,11 +272,11 @@ pub offset_in_the_expression : (m : Memory) (δ : Dialect) → offset_of (evalua
 offset_in_the_expression = offset_in_expression
 
 pub other_refusals_have_offset_0 : (m : Memory) (δ : Dialect) (r : Refusal)
-    → evaluation m δ ≡ refused_by r → placed r.number ≡ false → r.offset.0 ≡ 0
+    → evaluation m δ ≡ refused_by r → placed r.reason ≡ false → r.offset.0 ≡ 0
 other_refusals_have_offset_0 = offset_zero
 
 pub field_refusals_have_offset_0 : (m : Memory) (datum : ℕ) (buffer : List ℕ) (δ : Dialect) (r : Refusal)
-    → (field_of m datum buffer δ).answer ≡ RefusedField r → placed r.number ≡ false → r.offset.0 ≡ 0
+    → (field_of m datum buffer δ).answer ≡ Err r → placed r.reason ≡ false → r.offset.0 ≡ 0
 field_refusals_have_offset_0 = field_unplaced
 
 -- A selection that is refused with a number from 3 to 12 is so at a line with an `!if` or an `!elseif`, or at a kept DEFINE line, whose expression
@@ -288,11 +284,11 @@ field_refusals_have_offset_0 = field_unplaced
 -- line plus the offset in the expression, and at most the line's length. With any other number it is 0. `Reaches t ls n s δ` is that s is the
 -- state before line n of the lines ls, of which no earlier one is refused; there is at most one.
 pub selection_place : (f t : List ℕ) (δ : Dialect) (x : Fault) (n room : ℕ) → selection f t room δ ≡ refused x n
-    → placed x.number ≡ true → (s : State) × Reaches t (lines f) n s δ × PlacedIn t s (get_or (lines f) (n - 1) []) x δ
+    → placed x.reason ≡ true → (s : State) × Reaches t (lines f) n s δ × PlacedIn t s (get_or (lines f) (n - 1) []) x δ
 selection_place = selection_placed
 
 pub other_selections_have_offset_0 : (f t : List ℕ) (δ : Dialect) (x : Fault) (n room : ℕ) → selection f t room δ ≡ refused x n
-    → placed x.number ≡ false → x.at.0 ≡ 0
+    → placed x.reason ≡ false → x.at.0 ≡ 0
 other_selections_have_offset_0 = selection_unplaced
 
 pub one_state_before_a_line : (t : List ℕ) (δ : Dialect) (ls : List (List ℕ)) (n : ℕ) (s s' : State)
@@ -300,8 +296,8 @@ pub one_state_before_a_line : (t : List ℕ) (δ : Dialect) (ls : List (List ℕ
 one_state_before_a_line = reaches_one
 
 -- LOOKUP BY HALVING (document 02, order 4). By its contract, `halving::find` gives what `halving` is, the count of its rounds included; a round
--- compares one name. By its contract `lookup` gives the setting of the record that `halving` finds. `lookup_in` looks first among the settings
--- that lines made (order 6), which are no part of the table, from the front.
+-- compares one name. By its contract `lookup` gives the setting of the record that `halving` finds. The method `get` of `Settings` looks first
+-- among the settings that lines made (order 6), which are no part of the table, from the front.
 
 -- No two records of a well-formed table have the same name.
 pub one_record_under_a_name : (t : List ℕ) → well_formed t ≡ true
@@ -314,7 +310,7 @@ pub halving_finds : (t n : List ℕ) → ordered t ≡ true → Finds (records t
 halving_finds t n h = finds (records t) n (ascends t h)
 
 pub halving_finds_the_record : (t n : List ℕ) → ordered t ≡ true
-    → record_under t n ≡ pick (halving (records t) n).there (get_or (records t) (halving (records t) n).at []) []
+    → record_under t n ≡ unwrap_or (option_map (λ i. get_or (records t) i []) (halving (records t) n).at) []
 halving_finds_the_record = halved_record
 
 pub first_65_bytes_decide : (rs : List (List ℕ)) (n : List ℕ) → halving rs (take 65 n) ≡ halving rs n
@@ -329,7 +325,7 @@ pub ten_rounds_at_most_in_any_order : (rs : List (List ℕ)) (n : List ℕ) → 
 ten_rounds_at_most_in_any_order = at_most_ten
 
 pub ten_rounds_reached : (t : List ℕ) → ordered t ≡ true → length (records t) ≡ 512
-    → halving (records t) (name_of_record (records t) 0) ≡ record { there = true; at = 0; rounds = 10 }
+    → halving (records t) (name_of_record (records t) 0) ≡ record { at = Some 0; rounds = 10 }
 ten_rounds_reached t h = first_takes_ten (records t) (ascends t h)
 
 pub full_table_exists : (t : List ℕ) × (well_formed t ≡ true) × (length (records t) ≡ 512)
@@ -377,12 +373,12 @@ marks_show_reading = marks_tell_reading
 -- refused, and x is the fault of the reason; or if no line has a reason, x is 21 without a place, a group is open at the end, and line n is the
 -- innermost open `!if`.
 pub refused_exactly : (t : List ℕ) (δ : Dialect) (ls : List (List ℕ)) (x : Fault) (n : ℕ)
-    → (run t 1 start ls δ ≡ refused x n) ↔ (RefusedAt t ls x n δ ⊎ ((x ≡ unplaced 21) × RefusedAtEnd t ls n δ))
+    → (run t 1 start ls δ ≡ refused x n) ↔ (RefusedAt t ls x n δ ⊎ ((x ≡ unplaced FileUnfinished) × RefusedAtEnd t ls n δ))
 refused_exactly = refused_by_blocks
 
 -- No two reasons share a number: a fault in the text of a directive or of a DEFINE line never has a number from 17 to 21.
 pub faults_have_other_numbers : (t : List ℕ) (δ : Dialect) (bs : Blocks) (x : Fault) (i : ℕ)
-    → meaning t [] true bs δ ≡ fault x i → 17 ≤ x.number → x.number ≤ 21 → ⊥
+    → meaning t [] true bs δ ≡ fault x i → 17 ≤ reason_number x.reason → reason_number x.reason ≤ 21 → ⊥
 faults_have_other_numbers = fault_numbers
 
 -- At most one line is the innermost open `!if`.
@@ -395,7 +391,7 @@ innermost_is_one_line = one_innermost
 -- evaluated as any expression is, in a dialect that frees bars: the theorems on `evaluation_in` say what its answer is, and by `tree_decides` no
 -- bar is refused.
 pub condition_needs_a_blank : (t : List ℕ) (d : Directive) (s : List ℕ) (δ : Dialect) → (d ≡ If) ⊎ (d ≡ Elseif) → spaced s ≡ false
-    → evaluate t d s δ ≡ RefusedCondition (unplaced TEXT_MALFORMED)
+    → evaluate t d s δ ≡ Err (unplaced TextMalformed)
 condition_needs_a_blank = unspaced
 
 pub condition_is_an_answer : (t : List ℕ) (d : Directive) (s : List ℕ) (δ : Dialect) → (d ≡ If) ⊎ (d ≡ Elseif) → spaced s ≡ true
@@ -405,11 +401,11 @@ condition_is_an_answer = condition_answer
 -- No directive is refused with 8, whatever its text is. A selection is refused with 8, and with 27 or 28, only at a kept DEFINE line, where bars
 -- are as in a data field.
 pub directive_never_8 : (t : List ℕ) (d : Directive) (s : List ℕ) (δ : Dialect) (o : ℕ)
-    → evaluate t d s δ ≡ RefusedCondition (fault_at BAR_OUTSIDE o) → ⊥
+    → evaluate t d s δ ≡ Err (fault_at BarOutside o) → ⊥
 directive_never_8 = never_bar
 
 pub define_lines_only : (f t : List ℕ) (δ : Dialect) (x : Fault) (n room : ℕ) → selection f t room δ ≡ refused x n
-    → (x.number ≡ BAR_OUTSIDE) ⊎ ((x.number ≡ DEFINED_MANY) ⊎ (x.number ≡ DEFINED_LONG))
+    → (x.reason ≡ BarOutside) ⊎ ((x.reason ≡ DefinedMany) ⊎ (x.reason ≡ DefinedLong))
     → (s : State) × Reaches t (lines f) n s δ × (defines s (get_or (lines f) (n - 1) []) ≡ true)
 define_lines_only = define_only
 
@@ -423,19 +419,19 @@ bars_decide_8_only = bars_only
 
 -- By itself, in either edition, if reading is complete and the tokens derive a tree, an expression is refused with 8 exactly if a bar is outside
 -- parentheses, at the leftmost such bar.
-pub bar_by_itself : (old : Bool) (m : Memory) (end : Offset) → (reading m.expression (by_itself old)).ending ≡ Complete end
+pub bar_by_itself : (old : Bool) (m : Memory) (end : Offset) → (reading m.expression (by_itself old)).ending ≡ Ok end
     → (s : Tree Token) (d : Derives code_of expression (reading m.expression (by_itself old)).tokens s)
-    → (k : Token) (ks : List Token) → bare_bars code_of d ≡ k ∷ ks → evaluation_in m (by_itself old) ≡ refused_at BAR_OUTSIDE k.start
+    → (k : Token) (ks : List Token) → bare_bars code_of d ≡ k ∷ ks → evaluation_in m (by_itself old) ≡ refused_at BarOutside k.start
 bar_by_itself = eight_at
 
-pub no_bar_by_itself : (old : Bool) (m : Memory) (end : Offset) → (reading m.expression (by_itself old)).ending ≡ Complete end
+pub no_bar_by_itself : (old : Bool) (m : Memory) (end : Offset) → (reading m.expression (by_itself old)).ending ≡ Ok end
     → (s : Tree Token) (d : Derives code_of expression (reading m.expression (by_itself old)).tokens s)
     → bare_bars code_of d ≡ [] → refusal_number (evaluation_in m (by_itself old)) ≡ BAR_OUTSIDE → ⊥
 no_bar_by_itself = eight_without
 
 -- A data field has the refusals of its expression, in any dialect, and the buffer then stays as it was.
 pub field_refuses_expression : (m : Memory) (datum : ℕ) (buffer : List ℕ) (δ : Dialect) (r : Refusal) → evaluation m δ ≡ refused_by r
-    → field_of m datum buffer δ ≡ record { answer = RefusedField r; buffer = buffer }
+    → field_of m datum buffer δ ≡ record { answer = Err r; buffer = buffer }
 field_refuses_expression = refused_field
 
 -- EDITIONS (document 02, order 5). `in_new δ` and `in_old δ` are the rules of δ in the new and in the old edition.
@@ -463,7 +459,7 @@ bare_words_follow_equalities = follow_equalities
 
 -- And where one may be, it is read: if a reading of the old edition ends in 3 right after an equality operator, no bare word is there.
 pub bare_words_are_read : (e : List ℕ) (δ : Dialect) (us : List Token) (k : Token) (o n : ℕ)
-    → reading e (in_old δ) ≡ record { tokens = us ++ (k ∷ []); ending = Refused (refusal_at TOKEN_BAD o) } → is_equality k.code ≡ true
+    → reading e (in_old δ) ≡ record { tokens = us ++ (k ∷ []); ending = Err (refusal_at TokenBad o) } → is_equality k.code ≡ true
     → BareWord true (drop o e) n δ → ⊥
 bare_words_are_read = read_where_due
 
@@ -482,7 +478,7 @@ pub same_without_dollar_after_ifdef : (t : List ℕ) (δ : Dialect) (d : Directi
 same_without_dollar_after_ifdef = same_without_dollar
 
 pub no_dollar_after_ifdef_in_new : (t : List ℕ) (δ : Dialect) (d : Directive) → (d ≡ Ifdef) ⊎ (d ≡ Ifndef) → (s : List ℕ)
-    → get_or (past_blanks s) 0 0 ≡ byte "$" → evaluate t d s (in_new δ) ≡ RefusedCondition (unplaced TEXT_MALFORMED)
+    → get_or (past_blanks s) 0 0 ≡ byte "$" → evaluate t d s (in_new δ) ≡ Err (unplaced TextMalformed)
 no_dollar_after_ifdef_in_new = no_dollar_in_new
 
 pub used_name_is_its_name : (t : List ℕ) (δ : Dialect) (b w r : List ℕ) → SomeBlanks b → Name w → idle r ≡ true
@@ -491,7 +487,7 @@ used_name_is_its_name = used_is_plain
 
 pub only_used_names_in_old : (t : List ℕ) (δ : Dialect) (d : Directive) → (d ≡ Ifdef) ⊎ (d ≡ Ifndef) → (s : List ℕ)
     → get_or (past_blanks s) 0 0 ≡ byte "$"
-    → (evaluate t d s (in_old δ) ≡ RefusedCondition (unplaced TEXT_MALFORMED))
+    → (evaluate t d s (in_old δ) ≡ Err (unplaced TextMalformed))
     ⊎ ((spaced s ≡ true) × (w : List ℕ) × (r : List ℕ) × Uses (past_blanks s) w r)
 only_used_names_in_old = uses_or_malformed
 
@@ -528,8 +524,8 @@ pub old_accepts_expressions : (m : Memory) (δ : Dialect) (v : Value) (n : ℕ) 
 old_accepts_expressions = same_value
 
 pub old_accepts_fields : (m : Memory) (δ : Dialect) (datum : ℕ) (buffer : List ℕ) (n : ℕ) (left : List ℕ)
-    → field_of m datum buffer (in_new δ) ≡ record { answer = Length n; buffer = left }
-    → field_of m datum buffer (in_old δ) ≡ record { answer = Length n; buffer = left }
+    → field_of m datum buffer (in_new δ) ≡ record { answer = Ok n; buffer = left }
+    → field_of m datum buffer (in_old δ) ≡ record { answer = Ok n; buffer = left }
 old_accepts_fields = same_written
 
 pub old_accepts_selections : (t : List ℕ) (δ : Dialect) (f : List ℕ) (room : ℕ) (ms : List ℕ) (c : ℕ)
@@ -571,11 +567,11 @@ pub define_lines_say_one_thing : (o : List Own) (name : List ℕ) (p : ℕ) {x :
 define_lines_say_one_thing = says_once
 
 pub other_shapes_are_refused : (o : List Own) (t l : List ℕ) (δ : Dialect) → is_define l ≡ true → ((name e : List ℕ) → DefineLine l name e → ⊥)
-    → definition_of o t l δ ≡ failing (unplaced 22)
+    → definition_of o t l δ ≡ failing (unplaced TextMalformed)
 other_shapes_are_refused = other_shape
 
 pub long_names_are_refused : (o : List Own) (t l : List ℕ) (δ : Dialect) (name e : List ℕ) → DefineText l name e → 64 < length name
-    → definition_of o t l δ ≡ failing (unplaced 22)
+    → definition_of o t l δ ≡ failing (unplaced TextMalformed)
 long_names_are_refused = long_name_refused
 
 -- Such a line changes one record: the one under the name of its macro is that of the new setting, and under every other name it is as before.
@@ -593,19 +589,19 @@ pub settings_win_over_the_table : (o : List Own) (t n : List ℕ)
     → record_under (scope o t) n ≡ pick (has n o) (record_among (map record_of o) n) (record_under t n)
 settings_win_over_the_table = under_scope
 
-pub set_by_a_line_or_the_table : (o : List Own) (t n : List ℕ) → (setting_under (scope o t) n).found ≡ (has n o || (setting_under t n).found)
+pub set_by_a_line_or_the_table : (o : List Own) (t n : List ℕ) → is_some (setting_under (scope o t) n) ≡ (has n o || is_some (setting_under t n))
 set_by_a_line_or_the_table = found_scope
 
 -- The macro gets exactly the value of the line's expression, a number below 2^64 or a string with its kind and its bytes, whatever the table and
 -- the other settings are; the operators of the expression are counted.
 pub define_sets_a_number : (o : List Own) (x : Own) (k : ℕ) (t l : List ℕ) (δ : Dialect) → definition_of o t l δ ≡ sets x k
     → (v c : ℕ) → evaluation_in (over (expression_of l) (scope o t)) (by_itself δ.old) ≡ value (number_value v) c → v < 2 ^ 64
-    → (setting_under (scope (put x o) t) (macro_of l) ≡ set_to (Number v)) × (k ≡ c)
+    → (setting_under (scope (put x o) t) (macro_of l) ≡ Some (Number v)) × (k ≡ c)
 define_sets_a_number = line_number
 
 pub define_sets_a_string : (o : List Own) (x : Own) (k : ℕ) (t l : List ℕ) (δ : Dialect) → definition_of o t l δ ≡ sets x k
     → (j : TextKind) (p : Place) (w : List ℕ) (c : ℕ) → evaluation_in (over (expression_of l) (scope o t)) (by_itself δ.old) ≡ value (text j p w) c
-    → ((q : Place) × (setting_under (scope (put x o) t) (macro_of l) ≡ set_to (Text j q))
+    → ((q : Place) × (setting_under (scope (put x o) t) (macro_of l) ≡ Some (Text j q))
     × (take q.len (drop q.start.0 (scope (put x o) t)) ≡ w)) × (k ≡ c)
 define_sets_a_string = line_text
 
@@ -639,13 +635,13 @@ settings_are_those_of_blocks = settings_by_blocks
 -- the value that the expression had at line a, whatever these lines are.
 pub number_is_settled : (t : List ℕ) (δ : Dialect) (ls : List (List ℕ)) (a b : ℕ) (s s' : State) → SetsUntil t ls a b s s' δ
     → (v c : ℕ) → evaluation_in (over (expression_of (get_or ls (a - 1) [])) (scope s.own t)) (by_itself δ.old) ≡ value (number_value v) c → v < 2 ^ 64
-    → setting_under (scope s'.own t) (macro_of (get_or ls (a - 1) [])) ≡ set_to (Number v)
+    → setting_under (scope s'.own t) (macro_of (get_or ls (a - 1) [])) ≡ Some (Number v)
 number_is_settled = number_stays
 
 pub string_is_settled : (t : List ℕ) (δ : Dialect) (ls : List (List ℕ)) (a b : ℕ) (s s' : State) → SetsUntil t ls a b s s' δ
     → (j : TextKind) (p : Place) (w : List ℕ) (c : ℕ)
     → evaluation_in (over (expression_of (get_or ls (a - 1) [])) (scope s.own t)) (by_itself δ.old) ≡ value (text j p w) c
-    → (q : Place) × (setting_under (scope s'.own t) (macro_of (get_or ls (a - 1) [])) ≡ set_to (Text j q))
+    → (q : Place) × (setting_under (scope s'.own t) (macro_of (get_or ls (a - 1) [])) ≡ Some (Text j q))
     × (take q.len (drop q.start.0 (scope s'.own t)) ≡ w)
 string_is_settled = text_stays
 
@@ -683,7 +679,7 @@ pub pcds_are_of_the_table : (t : List ℕ) (δ : Dialect) (ls : List (List ℕ))
 pcds_are_of_the_table = pcd_record
 
 pub pcds_are_set_by_the_table : (t : List ℕ) (δ : Dialect) (ls : List (List ℕ)) (n : ℕ) (s : State) → Reaches t ls n s δ
-    → (p : List ℕ) → IsPcd p → (setting_under (scope s.own t) p).found ≡ (setting_under t p).found
+    → (p : List ℕ) → IsPcd p → is_some (setting_under (scope s.own t) p) ≡ is_some (setting_under t p)
 pcds_are_set_by_the_table = pcd_there
 
 -- ISOLATION (demand 3, as order 6 restates it)
@@ -699,10 +695,10 @@ isolated = isolation
 
 -- The same for two calls: `r` is the answer of a call, and `left` are the marks after it.
 pub isolated_calls : (δ : Dialect) (f₁ t₁ marks₁ : List ℕ) (r₁ : Answer) (left₁ : List ℕ) → Selects f₁ t₁ marks₁ r₁ left₁ δ
-    → (n c : ℕ) → r₁ ≡ Accepted (record { 0 = n }) c
+    → (n c : ℕ) → r₁ ≡ Ok (record { lines = record { 0 = n }; count = c })
     → (f₂ t₂ marks₂ : List ℕ) (r₂ : Answer) (left₂ : List ℕ) → Selects f₂ t₂ marks₂ r₂ left₂ δ
     → Comparable f₁ t₁ (take n left₁) f₂ t₂ (length marks₂) δ
-    → (r₂ ≡ Accepted (record { 0 = n }) c) × (take n left₂ ≡ take n left₁)
+    → (r₂ ≡ Ok (record { lines = record { 0 = n }; count = c })) × (take n left₂ ≡ take n left₁)
 isolated_calls = two_calls
 
 -- THE PARSER, which no statement above mentions, AND THE GRAMMAR, for tokens of any type

@@ -4,33 +4,33 @@ use native.Mathlib.Omega.{arith}
 use mathlib.Core.Path.{◌≡◌}
 use mathlib.Core.Bool.{◌||◌}
 use lib.Dec.{eqb}
+use Rattle.std.specs.Prelude.{Result, Ok, Err}
+use Rattle.units.specs.declared.Fault.{Fault}
+use Rattle.units.specs.declared.Reason.{Reason}
 use Rattle.text.proofs.Laws.{pick_case}
-use Rattle.lookup.specs.Setting.{Recorded}
+use Rattle.lookup.specs.Setting.{value_of, Recorded}
 use Rattle.lookup.specs.declared.Home.TheVariants.{Expression, Table}
 use Rattle.lookup.specs.declared.Value.{Value as CodedValue}
-use Rattle.lookup.specs.declared.Value.TheVariants.{Number, Text, Fault as Faulty}
+use Rattle.lookup.specs.declared.Value.TheVariants.{Number, Text}
 use Rattle.lookup.proofs.InFront.{setting_recorded}
 use Rattle.codes.specs.Codes.{STRING, WIDE, MACRO, PCD, BARE}
 use Rattle.token.specs.Tokens.{Token}
 use Rattle.arithmetic.specs.Operators.{unary_of, binary_of}
-use Rattle.arithmetic.specs.declared.Outcome.{Outcome}
-use Rattle.arithmetic.specs.declared.Outcome.TheVariants.{Number as Result, Refused}
 use Rattle.value.specs.Places.{Memory}
 use Rattle.value.specs.Kinds.{of_text, compares, suits}
-use Rattle.value.specs.Values.{Value, number, text, fault, denote_value, name_in, setting_of, primary_value, result_of, unary_value, skips, both_values}
-use Rattle.value.specs.Values.{binary_value, choice_value}
+use Rattle.value.specs.Values.{Value, number, text, fault, denote_value, denote_result, RecordedResult, name_in, setting_of}
+use Rattle.value.specs.Values.{primary_value, result_of, unary_value, skips, both_values, binary_value, choice_value}
 use Rattle.value.specs.Denote.{InOneRecord}
 
--- of a value of the code and of what it denotes
-pub denotes_recorded : (m : Memory) (v : CodedValue) → InOneRecord (denote_value m v) → Recorded v
-denotes_recorded m (Number x) h = tt
-denotes_recorded m (Text k p) h = h
-denotes_recorded m (Faulty f) h = tt
+-- of a result of the code and of what it denotes
+pub denotes_recorded : (m : Memory) (r : Result CodedValue Fault) → InOneRecord (denote_result m r) → RecordedResult r
+denotes_recorded m (Ok (Number x)) h = tt
+denotes_recorded m (Ok (Text k p)) h = h
+denotes_recorded m (Err f) h = tt
 
 recorded_denotes : (m : Memory) (v : CodedValue) → Recorded v → InOneRecord (denote_value m v)
 recorded_denotes m (Number x) h = tt
 recorded_denotes m (Text k p) h = h
-recorded_denotes m (Faulty f) h = tt
 
 -- a place in the expression is none in a table
 elsewhere : {A : Type 0} → Expression ≡ Table → A
@@ -43,12 +43,12 @@ primary_recorded m k =
     (λ _. pick_case InOneRecord (eqb k.code WIDE) (λ _. elsewhere)
     (λ _. pick_case InOneRecord (eqb k.code BARE) (λ _. elsewhere)
     (λ _. pick_case InOneRecord (eqb k.code MACRO || eqb k.code PCD)
-    (λ _. recorded_denotes m (setting_of m k).value (setting_recorded m.table (name_in m.expression k)))
+    (λ _. recorded_denotes m (value_of (setting_of m k)) (setting_recorded m.table (name_in m.expression k)))
     (λ _. tt))))
 
-result_recorded : (at : ℕ) (r : Outcome) → InOneRecord (result_of at r)
-result_recorded at (Result x) = tt
-result_recorded at (Refused n) = tt
+result_recorded : (at : ℕ) (r : Result ℕ Reason) → InOneRecord (result_of at r)
+result_recorded at (Ok x) = tt
+result_recorded at (Err n) = tt
 
 pub unary_recorded : (o at : ℕ) (v : Value) → InOneRecord (unary_value o at v)
 unfolding unary_value

@@ -4,9 +4,9 @@ use Rattle.std.proofs.Common.{rules}
 use Rattle.arithmetic.proofs.Bits64.{ranged_in, ranged_out, shift_in, shift_out}
 use Rattle.arithmetic.proofs.shifted_left.Goals as goal
 
-pub returns-then-y-zeros : goal.returns-then-y-zeros
-returns-then-y-zeros c = let h = shift_in c.args.x c.args.y (search rules) (search rules) (search rules) in
+pub returns-then-y-from : goal.returns-then-y-from
+returns-then-y-from c = let h = shift_in c.args.x c.args.y (search rules) (search rules) (search rules) in
     rw (mod-eq_of_lt h) (ranged_in _ h)
 
-pub returns-else-y-zeros : goal.returns-else-y-zeros
-returns-else-y-zeros c = ranged_out _ (shift_out c.args.x c.args.y (search rules) (search rules) (search rules))
+pub returns-else-y-from : goal.returns-else-y-from
+returns-else-y-from c = ranged_out _ (shift_out c.args.x c.args.y (search rules) (search rules) (search rules))

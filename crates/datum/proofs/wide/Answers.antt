@@ -1,24 +1,25 @@
 -- The datum decides first, then the room in the buffer.
-use Rattle.std.proofs.Common.{arith}
-use mathlib.Core.Path.{sym, ◌∙◌}
-use borrow.Author.Tests.{eq-eqb, ne_eqb}
+use Rattle.std.proofs.Common.{Err, arith}
+use Rattle.std.proofs.lemmas.Result.{err_from_is_err_and}
+use mathlib.Core.Path.{sym, ap, ◌∙◌}
 use Rattle.datum.specs.Encoding.{widened}
 use Rattle.datum.proofs.Storing.{wide_length}
 use Rattle.datum.proofs.Fitting.{refuses, short, stores}
 use Rattle.datum.proofs.wide.Goals as goal
 
-pub returns-then-why-ne0 : goal.returns-then-why-ne0
-returns-then-why-ne0 c =
-    refuses c.args.buffer.now (c.unsuited-why.ensures (widened c.args.s.now) ∙ rw (ne_eqb _ _ c.if-why-ne0.true)) c.refused.ensures
+pub returns-in_err-check_string : goal.returns-in_err-check_string
+returns-in_err-check_string c =
+    let failed = err_from_is_err_and c.from_residual.result c.from_residual.ensures.1 in
+    let why = c.in_err-check_string.ensures in
+    refuses c.args.buffer.now (why.1 (widened c.args.s.now)) (failed.1 ∙ ap Err (failed.2 ∙ why.0))
 
 pub returns-then-buffer-s : goal.returns-then-buffer-s
 returns-then-buffer-s c =
     let v = widened c.args.s.now in
-    let n = wide_length c.args.s.now in
-    short c.args.buffer.now {v = v} (c.unsuited-why.ensures v ∙ rw (eq-eqb _ _ c.if-why-ne0.false)) (omega arith) c.refused-then-buffer-s.ensures
+    short c.args.buffer.now (c.in_ok-check_string.ensures v) (omega (arith, wide_length c.args.s.now)) (ap Err c.into.ensures)
 
 pub returns : goal.returns
 returns c =
     let v = widened c.args.s.now in
     let n = wide_length c.args.s.now in
-    stores c.args.buffer.now {v = v} (c.unsuited-why.ensures v ∙ rw (eq-eqb _ _ c.if-why-ne0.false)) (omega arith) (sym n) c.put_wide.ensures
+    stores c.args.buffer.now (c.in_ok-check_string.ensures v) (omega (arith, n)) (sym n) c.put_wide.ensures

@@ -1,16 +1,17 @@
--- A record with the name decides; after the last one there was none.
-use native.Mathlib.Omega.{arith}
-use mathlib.Core.Path.{sym, ◌∙◌}
-use Rattle.own.proofs.Index.{index_here, index_later, index_none}
+-- `chunks_exact` yields the records.
+use mathlib.Core.Path.{◌∙◌}
+use Rattle.std.proofs.Common.{rules}
+use Rattle.std.proofs.lemmas.Iterator.Search.{position_from_yields_List}
+use borrow.Author.Tests.{tests}
+use Rattle.text.specs.Order.{equal}
+use Rattle.settings.specs.Table.{records, name_of}
+use Rattle.settings.proofs.TableRecords.{yields_records}
+use Rattle.own.proofs.Index.{place_position}
 use Rattle.own.proofs.index_of.Goals as goal
 
-pub returns-then-has_name : goal.returns-then-has_name
-returns-then-has_name c =
-    sym (c.loop-i.invariant.1 ∙ index_here c.args.own.now c.args.name.now c.loop-i.i (omega arith) (sym c.if-has_name.ensures))
-
-pub loop-i-preserved : goal.loop-i-preserved
-loop-i-preserved c =
-    (omega arith, c.loop-i.invariant.1 ∙ index_later c.args.own.now c.args.name.now c.loop-i.i (omega arith) (sym c.if-has_name.ensures))
-
 pub returns : goal.returns
-returns c = sym (c.loop-i.invariant.1 ∙ index_none c.args.own.now c.args.name.now c.loop-i.i (omega arith))
+returns c =
+    let t = c.args.own.now in
+    let n = c.args.name.now in
+    position_from_yields_List (λ r. equal (name_of r) n) _ _ _ c.position.ensures.ran (yields_records t (cc) (cc)) (λ x b q k. search (rules, tests))
+    ∙ place_position (records t) n

@@ -1,17 +1,15 @@
--- One record at a time: the first that is no setting decides, and the end of the records.
-use Rattle.std.proofs.Common.{arith, sym, ◌∙◌}
-use Rattle.progress.proofs.SettingRecords.{settings_stop, settings_go, settings_end}
+-- `chunks_exact` yields the records.
+use mathlib.Core.Path.{◌∙◌}
+use Rattle.std.proofs.Common.{rules}
+use Rattle.std.proofs.lemmas.Iterator.Search.{all_from_yields_List}
+use borrow.Author.Tests.{tests}
+use Rattle.settings.specs.Table.{records}
+use Rattle.settings.proofs.TableRecords.{yields_records}
+use Rattle.progress.specs.Reading.{is_setting}
+use Rattle.progress.proofs.SettingRecords.{settings_all}
 use Rattle.progress.proofs.are_settings.Goals as goal
 
-pub returns-then-not-is_setting : goal.returns-then-not-is_setting
-returns-then-not-is_setting c =
-    sym (c.loop-at.invariant.1 ∙ settings_stop c.args.b.now c.loop-at.at (omega arith) (sym c.is_setting.ensures ∙ c.if-not-is_setting.true))
-
-pub loop-at-preserved : goal.loop-at-preserved
-loop-at-preserved c = (
-  omega arith,
-  c.loop-at.invariant.1 ∙ settings_go c.args.b.now c.loop-at.at (omega arith) (sym c.is_setting.ensures ∙ c.if-not-is_setting.false),
-)
-
 pub returns : goal.returns
-returns c = sym (c.loop-at.invariant.1 ∙ settings_end c.args.b.now c.loop-at.at (omega arith))
+returns c =
+    let b = c.args.b.now in
+    all_from_yields_List is_setting _ _ _ c.all.ensures.ran (yields_records b (cc) (cc)) (λ x j q k. search (rules, tests)) ∙ settings_all (records b)

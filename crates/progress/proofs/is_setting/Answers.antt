@@ -1,12 +1,7 @@
--- The two tests are those of the definition.
-use Rattle.std.proofs.Common.{sym, ◌∙◌}
-use Rattle.progress.specs.Reading.{is_setting}
+-- A record has its name field.
+use Rattle.std.proofs.Common.{arith}
+use lib.Seq.{length-take-le}
 use Rattle.progress.proofs.is_setting.Goals as goal
 
-pub returns-then-is_well_formed : goal.returns-then-is_well_formed
-unfolding is_setting
-returns-then-is_well_formed c = rw (sym c.is_well_formed.ensures ∙ c.if-is_well_formed.true) c.has_macro_name.ensures
-
-pub returns-else-is_well_formed : goal.returns-else-is_well_formed
-unfolding is_setting
-returns-else-is_well_formed c = rw (← c.is_well_formed.ensures, c.if-is_well_formed.false)
+pub slice_bounds-has_macro_name-end : goal.slice_bounds-has_macro_name-end
+slice_bounds-has_macro_name-end c = omega (arith, c.requires, length-take-le 64 c.args.r.now (omega (arith, c.requires)))

@@ -1,16 +1,13 @@
--- A record that is not plain decides; after the last one all were.
-use mathlib.Core.Path.{sym, ◌∙◌}
-use native.Mathlib.Omega.{arith}
-use Rattle.settings.proofs.TableRecords.{plain_stops, plain_goes, plain_ends}
+-- `chunks_exact` yields the records.
+use mathlib.Core.Path.{◌∙◌}
+use Rattle.std.proofs.Common.{rules}
+use Rattle.std.proofs.lemmas.Iterator.Search.{all_from_yields_List}
+use borrow.Author.Tests.{tests}
+use Rattle.settings.specs.Table.{records, plain_record}
+use Rattle.settings.proofs.TableRecords.{yields_records, plain_all}
 use Rattle.settings.proofs.is_plain.Goals as goal
 
-pub returns-then-not-is_plain_record : goal.returns-then-not-is_plain_record
-returns-then-not-is_plain_record c =
-    sym (c.loop-at.invariant.1 ∙ plain_stops c.args.table.now c.loop-at.at (omega arith) (sym c.if-not-is_plain_record.ensures))
-
-pub loop-at-preserved : goal.loop-at-preserved
-loop-at-preserved c =
-    (omega arith, c.loop-at.invariant.1 ∙ plain_goes c.args.table.now c.loop-at.at (omega arith) (sym c.if-not-is_plain_record.ensures))
-
 pub returns : goal.returns
-returns c = sym (c.loop-at.invariant.1 ∙ plain_ends c.args.table.now c.loop-at.at (omega arith))
+returns c =
+    let t = c.args.table.now in
+    all_from_yields_List plain_record _ _ _ c.all.ensures.ran (yields_records t (cc) (cc)) (λ x b q k. search (rules, tests)) ∙ plain_all (records t)

@@ -1,20 +1,11 @@
--- The invariant: the number of all lines is the sum of the LFs of earlier blocks, those of this block so far, and the lines from here on,
--- one that has begun and not ended included.
-use Prim.Native.Nat.{◌≤◌, ◌+◌, ◌-◌}
-use mathlib.Core.Path.{◌≡◌}
-use lib.ListN.{length}
-use Rattle.line.specs.Lines.{lines}
-use Rattle.line.proofs.Counting.{left}
+-- The LFs of the blocks so far and those of the rest are all LFs.
+use Rattle.std.proofs.Common.{◌≡◌, ◌+◌, eqb}
+use Rattle.std.specs.List.{count_by}
+use Rattle.std.specs.Slice.Iter.{chunks_rest, chunks_size}
+use Rattle.text.specs.Bytes.{byte}
 use Rattle.line.proofs.cut.count.Given as goal
 
-abbrev pub invariant-loop-i-2 : goal.invariant-loop-i-2
-invariant-loop-i-2 l = (l.initial.i ≤ l.i) × (l.lfs + l.initial.i ≤ l.i) × (l.i ≤ l.end) × (length (lines l.file) ≡ l.n + l.lfs + left l.file l.i)
-
-abbrev pub decreases-loop-i-2 : goal.decreases-loop-i-2
-decreases-loop-i-2 l = l.end - l.i
-
-abbrev pub invariant-loop-i : goal.invariant-loop-i
-invariant-loop-i l = (l.n ≤ l.i) × (l.i ≤ length l.file) × (length (lines l.file) ≡ l.n + left l.file l.i)
-
-abbrev pub decreases-loop-i : goal.decreases-loop-i
-decreases-loop-i l = length l.file - l.i
+abbrev pub invariant-loop-block : goal.invariant-loop-block
+invariant-loop-block l =
+    (chunks_size l.block-iterator ≡ 224)
+    × (l.n + count_by (λ b. eqb b (byte "\n")) (chunks_rest l.block-iterator) ≡ count_by (λ b. eqb b (byte "\n")) l.file)

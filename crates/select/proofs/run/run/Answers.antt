@@ -1,9 +1,8 @@
 -- Each turn takes one line; the answer is that of the rest of the run.
-use Rattle.std.proofs.Common.{◌≡◌, ℕ, ◌-◌, ◌≤◌, Bool, true, false, ◌&&◌, List, length, take, drop, refl, sym, ap, ◌∙◌, length-set, arith, rules, eqb, leb}
+use Rattle.std.proofs.Common.{◌≡◌, ℕ, ◌-◌, ◌≤◌, Bool, true, false, ◌&&◌, List, length, take, drop, refl, sym, ap, ◌∙◌, length-set, arith, rules, eqb, leb, Err}
 use borrow.Author.Tests.{leb-true, le-leb}
 use Rattle.text.proofs.Laws.{and_left, and_right}
-use Rattle.own.specs.Own.{Own, records_of}
-use Rattle.own.specs.Putting.{Holds}
+use Rattle.own.specs.Own.{Own}
 use Rattle.own.proofs.BufferHolds.{held_none}
 use Rattle.line.specs.Directives.{is_define}
 use Rattle.groups.specs.Rules.{KEPT}
@@ -15,7 +14,7 @@ use Rattle.select.proofs.Marks.{first_fails, defining}
 use Rattle.select.proofs.RunInvariant.{begun, few_counted, stops, goes_on, defines_on, defines_few, defines_not, passes_plain, finished}
 use Rattle.select.proofs.RunBounds.{start_kept, refused_run}
 use Rattle.select.proofs.run.run.Goals as goal
-use Rattle.select.proofs.run.run.Goals.{then-is_passed, else-is_passed+then-is_defining+else-not-ok, else-is_passed+else-is_defining+else-not-ok-2}
+use Rattle.select.proofs.run.run.Goals.{then-is_passed, else-is_passed+then-is_defining+in-Ok, else-is_passed+else-is_defining+in-Ok-step}
 
 -- whether the line l sets a macro, by the code's tests
 module _ (x : Selection) (o : List Own) (mark : ℕ) (kept : MarksPlain x mark) (l : List ℕ) where
@@ -32,12 +31,6 @@ module _ (x : Selection) (o : List Own) (mark : ℕ) (kept : MarksPlain x mark) 
       → defines (denote_selection x o) l ≡ false
   not_setting r test e short = sets_macro false (first_fails _ _ (sym test ∙ e) (le-leb (length l) 1024 short))
 
--- the settings so far, as they are lent
-lent : (b : List ℕ) (used : ℕ) (o : List Own) → Holds b used o → take (used - 0) b ≡ records_of o
-lent b used o h =
-    let all : used - 0 ≡ used = omega arith in
-    ap (λ k. take k b) all ∙ h.bytes
-
 pub loop-at-init : goal.loop-at-init
 loop-at-init c = (
   begun _ _ _ _ c.fresh-x.result _ c.fresh-x.ensures (held_none _),
@@ -47,40 +40,39 @@ loop-at-init c = (
   omega arith,
 )
 
-pub returns-then-not-ok : goal.returns-then-not-ok
-returns-then-not-ok c =
+pub returns-in-Err : goal.returns-in-Err
+returns-in-Err c =
     let u = c.loop-at.invariant.0 in
-    let l = take (c.next-c.result.end.0 - c.loop-at.at.0) (drop c.loop-at.at.0 c.args.file.now) in
+    let l = take (c.next-cut.result.end.0 - c.loop-at.at.0) (drop c.loop-at.at.0 c.args.file.now) in
     let short = setting_short c.loop-at.x u.own c.loop-at.mark c.loop-at.invariant.2 l _ c.is_defining.ensures c.if-is_defining.true in
     let sets = setting c.loop-at.x u.own c.loop-at.mark c.loop-at.invariant.2 l _ c.is_defining.ensures c.if-is_defining.true in
-    refused_run _ _ _ _ c.loop-at.marks c.refused.result _ _
-    (defines_not u c.next-c.ensures c.requires.1 c.define-z.result _ short sets (c.define-z.ensures.does u.own u.held) c.if-not-ok.true)
-    c.refused.ensures
+    refused_run _ _ _ _ c.loop-at.marks _ c.in-Err.fault _
+    (defines_not u c.next-cut.ensures c.requires.1 c.define.new.own short sets c.in-Err.fault (c.in-Err.ensures.does u.own u.held))
+    (ap Err c.in_line.ensures)
 
 pub counted-x-requires : goal.counted-x-requires
 counted-x-requires c =
     let u = c.loop-at.invariant.0 in
-    let l = take (c.next-c.result.end.0 - c.loop-at.at.0) (drop c.loop-at.at.0 c.args.file.now) in
+    let l = take (c.next-cut.result.end.0 - c.loop-at.at.0) (drop c.loop-at.at.0 c.args.file.now) in
     let short = setting_short c.loop-at.x u.own c.loop-at.mark c.loop-at.invariant.2 l _ c.is_defining.ensures c.if-is_defining.true in
     let sets = setting c.loop-at.x u.own c.loop-at.mark c.loop-at.invariant.2 l _ c.is_defining.ensures c.if-is_defining.true in
-    let few = defines_few u c.next-c.ensures c.requires.1 c.define-z.result _ short sets (c.define-z.ensures.does u.own u.held) c.if-not-ok.false in
+    let few = defines_few u c.next-cut.ensures c.requires.1 c.define.new.own short sets c.in-Ok.defined (c.in-Ok.ensures.does u.own u.held) in
     omega (arith, few, few_counted u c.requires.2)
 
-pub returns-then-not-ok-2 : goal.returns-then-not-ok-2
-returns-then-not-ok-2 c =
+pub returns-in-Err-step : goal.returns-in-Err-step
+returns-in-Err-step c =
     let u = c.loop-at.invariant.0 in
-    refused_run _ _ _ _ c.loop-at.marks c.refused-then-not-ok-2.result _ _
-    (stops u c.next-c.ensures c.step-z.result (c.step-z.ensures u.own (lent _ _ _ u.held)) c.if-not-ok-2.true)
-    c.refused-then-not-ok-2.ensures
+    refused_run _ _ _ _ c.loop-at.marks _ c.in-Err-step.fault _
+    (stops u c.next-cut.ensures c.in-Err-step.fault (c.in-Err-step.ensures u.own u.held.bytes)) (ap Err c.in_line-in-Err-step.ensures)
 
 pub loop-at-preserved : goal.loop-at-preserved
 loop-at-preserved c =
-    let cut = c.next-c.ensures in
+    let cut = c.next-cut.ensures in
     let room = c.requires.1 in
     let now = c.loop-at in
     let i = c.loop-at.invariant in
     let u = i.0 in
-    let l = take (c.next-c.result.end.0 - c.loop-at.at.0) (drop c.loop-at.at.0 c.args.file.now) in
+    let l = take (c.next-cut.result.end.0 - c.loop-at.at.0) (drop c.loop-at.at.0 c.args.file.now) in
     elim c.if-is_passed.branch [
       | then-is_passed w ↦
           let is_plain = c.is_passed.ensures w.if-is_passed.true in
@@ -92,23 +84,23 @@ loop-at-preserved c =
             i.3,
             i.4,
           )
-      | else-is_passed+then-is_defining+else-not-ok w ↦
+      | else-is_passed+then-is_defining+in-Ok w ↦
           let short = setting_short now.x u.own now.mark i.2 l _ w.is_defining.ensures w.if-is_defining.true in
           let sets = setting now.x u.own now.mark i.2 l _ w.is_defining.ensures w.if-is_defining.true in
-          let does = w.define-z.ensures.does u.own u.held in
+          let does = w.in-Ok.ensures.does u.own u.held in
           rw (w.marks-is, w.x-is, w.own-is, w.used-is, w.mark-is) (
-            rw (← w.counted-x.ensures) at (defines_on u cut room w.define-z.result _ short sets does w.if-not-ok.false),
+            rw (← w.counted-x.ensures) at (defines_on u cut room w.define.new.own short sets w.in-Ok.defined does),
             length-set now.marks now.n.0 6 ∙ i.1,
             rw w.counted-x.ensures i.2,
-            w.define-z.ensures.used_bound.1,
-            w.define-z.ensures.used_bound.0,
+            w.in-Ok.ensures.used_bound.1,
+            w.in-Ok.ensures.used_bound.0,
           )
-      | else-is_passed+else-is_defining+else-not-ok-2 w ↦
-          let meets = w.step-z.ensures u.own (lent _ _ _ u.held) in
+      | else-is_passed+else-is_defining+in-Ok-step w ↦
+          let meets = w.in-Ok-step.ensures u.own u.held.bytes in
           let other = not_setting now.x u.own now.mark i.2 l _ w.is_defining.ensures w.if-is_defining.false in
           rw (w.marks-is, w.x-is, w.own-is, w.used-is, w.mark-is) (
-            goes_on u cut room w.step-z.result meets other w.if-not-ok-2.false,
-            length-set now.marks now.n.0 w.step-z.result.mark ∙ i.1,
+            goes_on u cut room w.in-Ok-step.step meets other,
+            length-set now.marks now.n.0 w.in-Ok-step.step.mark ∙ i.1,
             w.plain_mark-mark.ensures,
             i.3,
             i.4,

@@ -1,7 +1,0 @@
--- One test for each spelling, the last in the list first.
-use Rattle.lexeme.specs.Lexeme.{spelled}
-use Rattle.lexeme.proofs.words.word_of_5.Goals as goal
-
-pub returns : goal.returns
-unfolding spelled
-returns c = rw (c.spelled_so.ensures, c.spelled_so-r-2.ensures, c.spelled_so-r.ensures)
