@@ -18,7 +18,7 @@ use Rattle.line.specs.declared.Condition.{Condition}
 use Rattle.line.specs.declared.Condition.TheVariants.{Holds, Fails}
 use Rattle.groups.specs.Rules.{MAX_GROUPS, UNREAD, first_branch, was_taken, next_branch, opening, plan, branch_mark, settled, conclude}
 use Rattle.groups.specs.Groups.{Outcome, go, stop, State, applied}
-use Rattle.groups.specs.Stack.{Suits}
+use Rattle.groups.specs.Stack.{SuitsIf}
 use Rattle.groups.specs.declared.Innermost.{Innermost}
 use Rattle.groups.specs.declared.Transition.{Transition}
 use Rattle.groups.specs.declared.Transition.TheVariants.{Stay, Push, Replace, Pop}
@@ -32,11 +32,6 @@ Marks P (Ok (Push m f)) = P m
 Marks P (Ok (Replace m f)) = P m
 Marks P (Ok (Pop m)) = P m
 Marks P (Err r) = Unit
-
--- a transition, if there is one, suits this number of open groups
-abbrev pub SuitsIf : Result Transition Fault → (depth : ℕ) → Type 0
-SuitsIf (Ok r) k = Suits r k
-SuitsIf (Err r) k = Unit
 
 -- what a line does that is read, and any other line
 pub record Suited (P : ℕ → Type 0) (r : Result Transition Fault) (depth : ℕ) : Type 0 where

@@ -53,6 +53,11 @@ Suits (Push m f) k = k < MAX_GROUPS
 Suits (Replace m f) k = 0 < k
 Suits (Pop m) k = 0 < k
 
+-- the same of a transition that may be refused
+abbrev pub SuitsIf : Result Transition Fault → (depth : ℕ) → Type 0
+SuitsIf (Ok r) k = Suits r k
+SuitsIf (Err f) k = Unit
+
 -- the step of the code has this outcome
 abbrev pub Meets : Result Step Fault → Outcome → Type 0
 Meets (Ok z) (go m s) = (z.mark ≡ m) × Represents z.next s

@@ -2,10 +2,10 @@
 ghost use Rattle.std.specs.Prelude.{◌≡◌, List, ◌+◌, ◌^◌, ◌≤◌, ◌<◌, Ok};
 ghost use Rattle.own.specs.Own.{Own};
 ghost use Rattle.groups.specs.Groups.{innermost as innermost_of, applied};
-ghost use Rattle.groups.specs.Stack.{digit as digit_of, groups_of, denote_selection, Suits, Meets};
+ghost use Rattle.groups.specs.Stack.{digit as digit_of, groups_of, denote_selection, Suits, SuitsIf, Meets};
 
 use crate::{Flags, Innermost, Selection, Step, Transition, rules};
-use units::LineNumber;
+use units::{Fault, LineNumber};
 
 // Flags as the four lowest bits of a number.
 #[tactic(auto, unfolding(crate::specs::Stack::digit))]
@@ -41,8 +41,21 @@ pub fn innermost(x: Selection) -> Innermost
 // 16^15: the flags of 15 open groups are a number below it.
 const BELOW_TOP: u64 = 1 << 60;
 
-// A transition at line n, whose condition applied this many operators.
-pub fn apply(r: Transition, n: LineNumber, count: usize, x: Selection) -> Step
+// A transition at line n, whose condition applied this many operators; a refusal is handed on.
+pub fn apply(
+    r: Result<Transition, Fault>,
+    n: LineNumber,
+    count: usize,
+    x: Selection,
+) -> Result<Step, Fault>
+    requires { (x.depth ≤ 16) × SuitsIf r x.depth × (n.0 < 65536) × (x.count + count < 2 ^ 64) }
+    ensures { (o : List Own) → Meets result (applied r n.0 count (denote_selection x o)) }
+{
+    Ok(moved(r?, n, count, x))
+}
+
+// A selection after a transition.
+fn moved(r: Transition, n: LineNumber, count: usize, x: Selection) -> Step
     requires { (x.depth ≤ 16) × Suits r x.depth × (n.0 < 65536) × (x.count + count < 2 ^ 64) }
     ensures { (o : List Own) → Meets (Ok result) (applied (Ok r) n.0 count (denote_selection x o)) }
 {

@@ -27,7 +27,7 @@ use Rattle.define.specs.Define.{Definition, sets, fails, definition_of}
 use Rattle.define.proofs.Counts.{Small, definition_small}
 use Rattle.groups.specs.Rules.{DEFINED, plain_mark, plan, conclude}
 use Rattle.groups.specs.Groups.{innermost, State, Outcome, go, stop, applied}
-use Rattle.groups.specs.Stack.{groups_of, Suits}
+use Rattle.groups.specs.Stack.{groups_of, Suits, SuitsIf}
 use Rattle.groups.specs.declared.Selection.{Selection}
 use Rattle.groups.specs.declared.Innermost.{Innermost}
 use Rattle.groups.specs.declared.Transition.{Transition}
@@ -35,7 +35,7 @@ use Rattle.groups.specs.declared.Transition.TheVariants.{Stay, Push, Replace, Po
 use Rattle.groups.specs.declared.Plan.{Plan}
 use Rattle.groups.specs.declared.Plan.TheVariants.{Read, Unread}
 use Rattle.groups.proofs.Stacks.{same_depth}
-use Rattle.groups.proofs.Plans.{Above, Below, Suitable, SuitsIf, suitable, Shows, applied_shows}
+use Rattle.groups.proofs.Plans.{Above, Below, Suitable, suitable, Shows, applied_shows}
 use Rattle.select.specs.Step.{planned, decided, defines, defined, step}
 use Rattle.units.specs.declared.Reason.TheVariants.{LineLong}
 
@@ -184,11 +184,11 @@ module _ (x : Selection) (d : Directive) (v : Innermost) (asked : v ≡ innermos
       let z : Suitable d v (Ok (Unread r)) = rw (← h) at (suitable d v) in
       subst (Suits r) depth_asked z.suits
 
-  pub read_suits : (r : Transition) (c : Result Condition Fault) → Ok Read ≡ plan d v → Ok r ≡ conclude d v c → Suits r x.depth
+  pub read_suits : (r : Result Transition Fault) (c : Result Condition Fault) → Ok Read ≡ plan d v → r ≡ conclude d v c → SuitsIf r x.depth
   read_suits r c h e =
       let z : Suitable d v (Ok Read) = rw (← h) at (suitable d v) in
-      let k : SuitsIf (Ok r) v.depth = rw (← e) at (z c).suits in
-      subst (Suits r) depth_asked k
+      let k : SuitsIf r v.depth = rw (← e) at (z c).suits in
+      subst (SuitsIf r) depth_asked k
 
   -- the plan of the line
   pub line_planned : (l : List ℕ) (q : Result Plan Fault) → d ≡ directive_of l → q ≡ plan d v → plan (directive_of l) (innermost (groups_of x)) ≡ q

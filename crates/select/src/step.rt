@@ -80,13 +80,13 @@ pub fn step(
     let directive = head.directive;
     let s = stack::innermost(x);
     match rules::plan(directive, s)? {
-        Plan::Unread(transition) => Ok(stack::apply(transition, n, 0, x)),
+        Plan::Unread(transition) => stack::apply(Ok(transition), n, 0, x),
         Plan::Read => {
             let text = word::text(line, head.text);
             let condition = condition::evaluate(settings, directive, text, dialect);
             let condition = places::in_line(condition, head.text);
-            let transition = rules::conclude(directive, s, condition)?;
-            Ok(stack::apply(transition, n, count_of(condition), x))
+            let transition = rules::conclude(directive, s, condition);
+            stack::apply(transition, n, count_of(condition), x)
         }
     }
 }

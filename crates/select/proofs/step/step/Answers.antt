@@ -55,32 +55,6 @@ in_line-condition-requires c =
       head.within,
     )
 
-pub returns-in_err-transition-in-Read : goal.returns-in_err-transition-in-Read
-returns-in_err-transition-in-Read c =
-    let a = c.args in
-    let l = a.line.now in
-    let head = c.requires.3 in
-    let failed = err_from_is_err_and c.from_residual-in_err-transition-in-Read.result c.from_residual-in_err-transition-in-Read.ensures.1 in
-    let plan = rw c.in-Read.is at c.in_ok-transition.ensures in
-    let planned = line_planned a.x a.head.directive _ c.innermost-s.ensures l (Ok Read) head.directive plan in
-    let at = head.starts (other_read _ _ planned) in
-    let handed = c.text-text.ensures at in
-    λ o e.
-    let s = denote_selection a.x o in
-    let other = c.requires.4 c.if-line-gt-MAX_LINE.false in
-    let said : c.in_line-condition.result ≡ condition_of (scope o a.settings.table.now) (directive_of l) l a.dialect =
-    c.in_line-condition.ensures ∙ rw (c.evaluate-condition.ensures, at, head.directive, handed.bytes, e) in
-    rw (
-      failed.1,
-      failed.2,
-      planned_step a.settings.table.now a.dialect a.n.0 s l (Ok Read) c.if-line-gt-MAX_LINE.false other planned,
-      ← said,
-      ← head.directive,
-      ← c.innermost-s.ensures,
-      ← c.in_err-transition-in-Read.ensures,
-    )
-    refl
-
 pub apply-requires-in-Read : goal.apply-requires-in-Read
 apply-requires-in-Read c =
     let a = c.args in
@@ -88,7 +62,7 @@ apply-requires-in-Read c =
     let small = count_small (a.settings.own.now ++ a.settings.table.now) a.head.directive c.text-text.result.now a.dialect in
     let count = ap count_of c.in_line-condition.ensures ∙ same_count a.head.text.0 c.evaluate-condition.result in (
       c.requires.1,
-      read_suits a.x a.head.directive _ c.innermost-s.ensures _ c.in_line-condition.result plan c.in_ok-transition-in-Read.ensures,
+      read_suits a.x a.head.directive _ c.innermost-s.ensures _ c.in_line-condition.result plan c.conclude-transition.ensures,
       c.requires.0,
       omega (arith, c.count_of.ensures, count, ap count_of c.evaluate-condition.ensures, small, c.requires.2),
     )
@@ -104,8 +78,8 @@ returns-in-Unread c =
     let other = c.requires.4 c.if-line-gt-MAX_LINE.false in
     rw (planned_step a.settings.table.now a.dialect a.n.0 s l _ c.if-line-gt-MAX_LINE.false other planned) (c.apply.ensures o)
 
-pub returns-in_ok-transition-in-Read : goal.returns-in_ok-transition-in-Read
-returns-in_ok-transition-in-Read c =
+pub returns-in-Read : goal.returns-in-Read
+returns-in-Read c =
     let a = c.args in
     let l = a.line.now in
     let head = c.requires.3 in
@@ -124,6 +98,6 @@ returns-in_ok-transition-in-Read c =
       ← c.count_of.ensures,
       ← head.directive,
       ← c.innermost-s.ensures,
-      ← c.in_ok-transition-in-Read.ensures,
+      ← c.conclude-transition.ensures,
     )
     (c.apply-in-Read.ensures o)
