@@ -68,7 +68,11 @@ fn reasons(source: &str) -> BTreeMap<String, String> {
     let (_, rest) = source.split_once("pub enum Reason {").expect("the enum");
     let (body, _) = rest.split_once("\n}").expect("the end of the enum");
     let reason = |line: &str| {
-        let (name, number) = line.trim().strip_suffix(',')?.split_once(" = ")?;
+        let variant = line
+            .trim()
+            .strip_suffix(',')
+            .filter(|line| !line.starts_with("//"))?;
+        let (name, number) = variant.split_once(" = ").expect("the number of a reason");
         let mut words = String::new();
         for (i, letter) in name.chars().enumerate() {
             if letter.is_uppercase() && i > 0 {

@@ -13,7 +13,7 @@ from sessions import ROOT, read
 Definition = collections.namedtuple("Definition", "path names lines words")
 # A file of definitions: what its imports call (module, name, path of the file or None), its definitions, and these by name.
 File = collections.namedtuple("File", "path text imports definitions names")
-# A function: path in the language (crate::module::name), file, whether it is public and whether C calls it, its contract.
+# A function: path in the language (crate::module::name, of a method crate::module::Type::name), file, whether it is public and whether C calls it, its contract.
 Function = collections.namedtuple("Function", "name path public exported requires ensures file")
 
 WORD = re.compile(r"[^\s(){};,.]+")

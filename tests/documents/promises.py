@@ -101,7 +101,7 @@ class Types:
                 self.add("crates/%s/src/%s.rt" % (crate, "/".join(modules) or "lib"), other)
 
     def add_module(self, module):
-        """The type of a module such as Rattle.token.specs.declared.scan.Ending."""
+        """The type of a module such as Rattle.token.specs.declared.scan.Scan."""
         found = re.match(r"Rattle\.(\w+)\.specs\.declared\.((?:[a-z]\w*\.)*)([A-Z]\w*)", module)
         if found:
             crate, modules, name = found.groups()
