@@ -16,6 +16,11 @@ def exported(*words):
     return sorted(line.split()[2] for line in run("nm", "--defined-only", *words)[0].splitlines() if len(line.split()) == 3)
 
 
+def needed(path):
+    """The names of undefined symbols."""
+    return sorted({line.split()[1] for line in run("nm", "--undefined-only", path)[0].splitlines() if len(line.split()) == 2})
+
+
 def checks():
     lib = os.path.join(installed(), "lib")
     shared = os.path.join(lib, "libkorzhinay.so")
@@ -23,4 +28,5 @@ def checks():
     yield "the shared library's name", entries(shared, "SONAME"), [SONAME]
     yield "what the shared library needs", entries(shared, "NEEDED"), ["libc.so.6"]
     yield "what the shared library exports", exported("--dynamic", shared), sorted(CALLS)
+    yield "what the static library needs", needed(os.path.join(lib, "libkorzhinay.a")), ["memset"]
     yield "what the static library exports", exported("--extern-only", os.path.join(lib, "libkorzhinay.a")), sorted(CALLS)

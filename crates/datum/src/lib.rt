@@ -10,6 +10,7 @@ ghost use Rattle.datum.specs.Encoding.{bytes, terminated, widened, number_field,
 ghost use Rattle.datum.specs.Datums.{Unfits};
 
 use sizes::Numbers;
+use text::copies;
 use types::Datum;
 use units::{Reason, Refusal};
 
@@ -24,7 +25,7 @@ pub fn number(buffer: &mut [u8], datum: u8, x: u64) -> Result<usize, Refusal>
     if buffer.len() < width {
         return Err(Reason::BufferShort.into());
     }
-    buffer[..width].copy_from_slice(&x.to_le_bytes()[..width]);
+    copies::copy(&mut buffer[..width], &x.to_le_bytes()[..width]);
     Ok(width)
 }
 

@@ -4,12 +4,14 @@ ghost use Rattle.std.proofs.lemmas.List.Edits.{sets};
 ghost use Rattle.text.specs.Parts.{stored};
 ghost use Rattle.datum.specs.Encoding.{terminated, widened};
 
+use text::copies;
+
 // Stores a string and a zero byte.
 pub fn put_string(buffer: &mut [u8], s: &[u8])
     requires { length s.now < length buffer.old }
     ensures { buffer.new ≡ stored (terminated s.now) buffer.old }
 {
-    buffer[..s.len()].copy_from_slice(s);
+    copies::copy(&mut buffer[..s.len()], s);
     buffer[s.len()] = 0;
 }
 

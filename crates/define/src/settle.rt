@@ -111,7 +111,9 @@ fn of_answer<'a>(
     }
 }
 
-// Sets the macro of a line that is kept and has the first word `DEFINE`.
+// Sets the macro of a line that is kept and has the first word `DEFINE`. Out of line, so that the loop over the lines of a file keeps its
+// registers.
+#[inline(never)]
 #[tactic(auto, using(crate::proofs::Answers::answer_handed, crate::proofs::Answers::text_fits), unfolding(crate::specs::Define::definition_of))]
 pub fn define<'a>(
     own: &mut [u8; 8192],

@@ -55,7 +55,8 @@ fn lf_from(file: &[u8], from: Offset) -> Offset
     runs::run_end(file, Offset(at), Set::NotLineFeed)
 }
 
-// The line that starts at a byte.
+// The line that starts at a byte. Out of line, so that the loop over the lines of a file keeps its registers.
+#[inline(never)]
 pub fn next(file: &[u8], from: Offset) -> Cut
     requires { from.0 < length file.now }
     ensures { Cuts file.now from.0 result }

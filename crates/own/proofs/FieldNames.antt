@@ -58,6 +58,10 @@ module _ (f n : List ℕ) (e : unpadded f ≡ n) where
   no_zero : span NonZero n ≡ length n
   no_zero = ap (span NonZero) (sym e) ∙ span_itself NonZero f ∙ its_length
 
+-- texts with another byte at some place are not equal
+pub other_byte : (a b : List ℕ) (i : ℕ) {x y : ℕ} → x ≡ get_or a i 0 → y ≡ get_or b i 0 → (x ≡ y → ⊥) → eqb x y ≡ equal a b
+other_byte a b i {x} {y} f g h = ne_eqb x y h ∙ sym (differs a b (λ e. h (f ∙ ap (λ l. get_or l i 0) e ∙ sym g)))
+
 -- a field has the name if its bytes, none of them zero, are at the front, and a zero or nothing comes after them
 span_to : (n f : List ℕ) → take (length n) f ≡ n → get_or f (length n) 0 ≡ 0 → span NonZero n ≡ length n → span NonZero f ≡ length n
 unfolding span

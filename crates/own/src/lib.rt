@@ -9,7 +9,7 @@ ghost use Rattle.own.specs.Own.{Own, padded};
 ghost use Rattle.own.specs.Index.{place_among};
 ghost use Rattle.own.specs.Putting.{Holds, IsSetting, Puts};
 
-use text::{bytes, order};
+use text::{bytes, copies, order};
 use units::Offset;
 
 // The largest number of settings.
@@ -23,6 +23,14 @@ pub struct Content {
     pub bytes: [u8; 56],
 }
 
+// Whether two texts are equal: their last bytes first, since names often begin alike.
+fn is_same(a: &[u8], b: &[u8]) -> bool
+    ensures { result ≡ equal a.now b.now }
+{
+    let last = Offset(a.len().saturating_sub(1));
+    bytes::byte_at(a, last) == bytes::byte_at(b, last) && order::is_equal(a, b)
+}
+
 // Whether this is the name of a record. Where the name in the record ends is checked before its bytes.
 #[tactic(auto, using(crate::proofs::FieldNames::name_tests))]
 fn has_name(r: &[u8], name: &[u8]) -> bool
@@ -33,7 +41,7 @@ fn has_name(r: &[u8], name: &[u8]) -> bool
     let n = name.len();
     n <= field.len()
         && bytes::byte_at(field, Offset(n)) == 0
-        && order::is_equal(&field[..n], name)
+        && is_same(&field[..n], name)
         && !name.contains(&0)
 }
 
@@ -50,7 +58,7 @@ fn fill(buffer: &mut [u8], s: &[u8])
     ensures { buffer.new ≡ padded (length buffer.old) s.now }
 {
     let (front, rest) = buffer.split_at_mut(s.len().min(buffer.len()));
-    front.copy_from_slice(&s[..front.len()]);
+    copies::copy(front, &s[..front.len()]);
     rest.fill(0);
 }
 

@@ -33,4 +33,4 @@ returns c =
     let n = low_length w c.args.x in
     let stored = stored_number w c.args.x c.args.buffer.now (c.in_ok-width.ensures.0) c.if-buffer-width.false in
     stores c.args.buffer.now {v = lowest_bytes w c.args.x} (c.in_ok-width.ensures.1 c.args.x ∙ rw (le-ltb _ _ c.if-largest-x.false)) (omega (arith, n)) (sym n)
-    (rw (c.copy_from_slice.ensures.after, c.to_le_bytes.ensures) stored)
+    (rw (c.copy.ensures, c.to_le_bytes.ensures) stored)

@@ -38,6 +38,6 @@ returns c =
     let p = c.requires in
     let x = front_lexeme e at after δ k _ p.0 p.1 c.in_ok-found.ensures in
     let r : 200 - n ≡ suc (200 - (n + 1)) = omega arith in
-    let w : Within (drop at e) (Ok c.in_ok-found.found) = rw x at (lexeme_in after (drop at e) δ) in
-    let ends : at + c.in_ok-found.found.len ≤ length e = omega (arith, p.0, w.1, length-drop at e) in
+    let w : Within (drop at e) (Ok c.in_ok-found.field-0) = rw x at (lexeme_in after (drop at e) δ) in
+    let ends : at + c.in_ok-found.field-0.len ≤ length e = omega (arith, p.0, w.1, length-drop at e) in
     record { goes = rw r (at_found e at after δ p.0 k p.1 p.2 (200 - (n + 1)) _ x w.0 ends); room = omega arith; onward = w.0; ends = ends }
